@@ -1,0 +1,15 @@
+pub mod Names
+pub mod SessionKey
+pub mod Topics
+pub mod AskValue
+pub mod MessageValue
+pub mod Messages
+pub mod Keyed
+pub mod Sessions
+pub mod Cells
+pub mod CellSteps
+pub mod Covering
+pub mod Kinds
+pub mod Tallies
+pub mod Worlds
+pub mod Histories
