@@ -6,3 +6,4 @@ pub mod Writes
 pub mod Sources
 pub mod Sinks
 pub mod Turns
+pub mod Adapters

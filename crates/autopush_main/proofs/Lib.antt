@@ -1,0 +1,7 @@
+mod Flow
+mod LfLaws
+mod LineLaws
+mod TurnLaws
+mod Progress
+mod Values
+mod Counts

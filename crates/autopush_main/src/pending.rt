@@ -1,0 +1,126 @@
+//! The lines of a source, one after the other.
+ghost use Rattle.std.specs.Prelude.{◌≡◌, ◌≤◌, ◌<◌, ◌+◌, ◌++◌, ◌∷◌, [], length, take, drop, OnOk, OnErr, MatchOption, position};
+ghost use Rattle.autopush_main.specs.Lines.{NoLf, is_lf, Found, Fills};
+
+use crate::chunk::{Chunk, read_chunk};
+use push_model::NoMemory;
+use push_outside::Source;
+use std::alloc::Global;
+use std::marker::Model;
+
+/// Bytes that were read and are still to be answered, seen as a list.
+#[derive(Drop)]
+pub struct Pending {
+    held: Vec<u8>,
+    start: usize,
+}
+
+impl Model for Pending {
+    ghost use Rattle.std.specs.Prelude.{List, ℕ, ◌≤◌, length, drop};
+
+    ghost Value = { List ℕ };
+
+    ghost view = { λ p. drop p.start p.held.items };
+
+    ghost invariant = { λ p. p.start ≤ length p.held.items };
+}
+
+impl Pending {
+    /// No bytes. It takes no memory.
+    pub fn new(alloc: Global) -> Pending
+        ensures { result ≡ [] }
+    {
+        Pending {
+            held: Vec::new(alloc),
+            start: 0,
+        }
+    }
+
+    /// The bytes.
+    pub fn bytes(&self) -> &[u8]
+        ensures { result.now ≡ self.now }
+    {
+        &self.held[self.start..]
+    }
+
+    /// Adds bytes at the end; at `Err` nothing changes.
+    pub fn push(&mut self, more: &[u8]) -> Result<(), NoMemory>
+        ensures ok { OnOk result (self.new ≡ self.old ++ more.now) }
+        ensures err { OnErr result (self.new ≡ self.old) }
+    {
+        self.held.drain(..self.start);
+        self.start = 0;
+        match self.held.extend_from_slice(more) {
+            Ok(()) => Ok(()),
+            Err(_) => Err(NoMemory),
+        }
+    }
+
+    /// Drops so many bytes at the front, which were answered.
+    pub fn skip(&mut self, count: usize)
+        requires { count ≤ length self.old }
+        ensures { self.new ≡ drop count self.old }
+    {
+        self.start += count;
+    }
+}
+
+fn first_lf(bytes: &[u8]) -> Option<usize>
+    ensures { result ≡ position is_lf bytes.now }
+{
+    bytes.iter().position(|b| *b == b'\n')
+}
+
+/// Where the first LF stands.
+fn line_end(bytes: &[u8]) -> Option<usize>
+    ensures { MatchOption result (NoLf bytes.now) (λ n. (n < length bytes.now) × NoLf (take n bytes.now) × (drop n bytes.now ≡ 10 ∷ drop (n + 1) bytes.now)) }
+{
+    first_lf(bytes)
+}
+
+/// What stands at the front of the input.
+#[derive(Clone, Copy, Debug)]
+pub enum Next {
+    /// A line of so many bytes, and its LF.
+    Line(usize),
+    /// The rest of the input, with no LF.
+    End,
+    /// A line over the limit.
+    TooLong,
+    Lost,
+    NoMemory,
+}
+
+/// The most bytes of a line, without its LF.
+pub const LINE: usize = 16384;
+
+/// The bytes of one read.
+const CHUNK: usize = 16384;
+
+/// Reads until the front of the input is known: a line and its LF, its rest without one, or more bytes than a line has.
+pub fn next_line<I: Source>(source: &mut I, pending: &mut Pending) -> Next
+    ensures input { Fills result (I.left source.old) (I.left source.new) pending.old pending.new }
+    ensures found { Found result pending.new (I.faults source.old) (I.faults source.new) (I.lulls source.new) }
+{
+    for _ in 0..=LINE + 1 {
+        match line_end(pending.bytes()) {
+            Some(n) if n <= LINE => return Next::Line(n),
+            Some(_) => return Next::TooLong,
+            None => {}
+        }
+        if pending.bytes().len() > LINE {
+            return Next::TooLong;
+        }
+        let mut room = [0; CHUNK];
+        match read_chunk(source, &mut room) {
+            Chunk::Bytes(count) => {
+                if pending.push(&room[..count]).is_err() {
+                    return Next::NoMemory;
+                }
+            }
+            Chunk::End => return Next::End,
+            Chunk::Lost => return Next::Lost,
+        }
+    }
+    unreachable!()
+}

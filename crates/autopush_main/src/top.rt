@@ -1,0 +1,71 @@
+//! The top call.
+ghost use Rattle.std.specs.Prelude.{◌≡◌, ◌↔◌, ◌⊎◌, ◌==◌, [], ◌∷◌, map, codes, IsTrue, string_bytes};
+ghost use Rattle.std.specs.List.{list_any};
+ghost use Rattle.std.specs.Io.KnownBytes.{Keeps};
+ghost use Rattle.autopush_main.specs.Known.{HasCause};
+ghost use Rattle.autopush_main.specs.Replay.{IsDone, IsRefusal, IsBroken};
+ghost use Rattle.autopush_main.specs.Turns.{IsCut};
+
+use crate::run::run;
+use crate::turn::End;
+use push_outside::{Sink, Source};
+use std::alloc::Global;
+
+fn is_replay(words: &[String]) -> bool
+    ensures { IsTrue result ↔ (map string_bytes words.now ≡ codes "replay" ∷ []) }
+{
+    match words {
+        [word] => word.as_str() == "replay",
+        _ => false,
+    }
+}
+
+/// Replays a schedule: reads its lines from the input, makes the step of each on a shard from its start, and writes the
+/// reply's line before it reads the next. The words are those after the program's name; there is the one word `replay`.
+///
+/// A line has at most 16,384 bytes and is ended by LF, which the last one needn't have; a schedule has at most 1,000,000
+/// lines. It returns always, and its answer is the exit status:
+/// - 0: all of the input was read, and each line answered;
+/// - 2: exactly where the words aren't the one word `replay`; nothing is read or written;
+/// - 4: a line is outside the grammar, or line 1,000,001 is there; the lines before it were answered, and the last line
+///   written is `refused line L` with its number;
+/// - 5: the source's count of faults rose, or it had nothing 1,000,000,000 times in a row; all lines that were whole
+///   before were answered;
+/// - 6: the sink's count of faults rose, or it took nothing 1,000,000,000 times in a row; a front of the text was written;
+/// - 7: memory ran out; a front of the text was written.
+pub fn autopush_replay<I: Source, K: Sink>(
+    alloc: Global,
+    words: &[String],
+    input: &mut I,
+    output: &mut K,
+) -> u8
+    // 2 comes exactly where the words aren't the one word, and then nothing is read or written.
+    ensures words { result ≡ 2 → ¬ (map string_bytes words.now ≡ codes "replay" ∷ []) }
+    ensures wrong_words { ¬ (map string_bytes words.now ≡ codes "replay" ∷ []) → result ≡ 2 }
+    ensures nothing_written { result ≡ 2 → Keeps (K.written output.old) (K.written output.new) }
+    ensures nothing_read { result ≡ 2 → Keeps (I.left input.old) (I.left input.new) }
+
+    // There are no other statuses.
+    ensures known { IsTrue (list_any (λ s. s == result) (0 ∷ 2 ∷ 4 ∷ 5 ∷ 6 ∷ 7 ∷ [])) }
+
+    // What was read, and what was written.
+    ensures done { result ≡ 0 → IsDone (I.left input.old) (I.left input.new) (K.written output.old) (K.written output.new) }
+    ensures refused { result ≡ 4 → IsRefusal (I.left input.old) (I.left input.new) (K.written output.old) (K.written output.new) }
+    ensures broken { result ≡ 5 → IsBroken (I.left input.old) (I.left input.new) (K.written output.old) (K.written output.new) }
+    ensures cut { (result ≡ 6) ⊎ (result ≡ 7) → IsCut (I.left input.old) (K.written output.old) (K.written output.new) }
+
+    // Faults come only by the counts of the source and of the sink.
+    ensures read_fault { result ≡ 5 → HasCause (I.faults input.old) (I.faults input.new) (I.lulls input.new) }
+    ensures write_fault { result ≡ 6 → HasCause (K.faults output.old) (K.faults output.new) (K.lulls output.new) }
+{
+    if !is_replay(words) {
+        return 2;
+    }
+    match run(alloc, input, output) {
+        End::Done => 0,
+        End::Refused => 4,
+        End::ReadFault => 5,
+        End::WriteFault => 6,
+        End::NoMemory => 7,
+    }
+}

@@ -1,0 +1,9 @@
+pub mod Numerals
+pub mod HexDigits
+pub mod Zeros
+pub mod Payloads
+pub mod Pages
+pub mod Fields
+pub mod ValueLaws
+pub mod FieldLaws
+pub mod Lines

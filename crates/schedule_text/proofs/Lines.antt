@@ -1,0 +1,146 @@
+-- The two laws of lines: what is read is spelled so, and what is spelled so is read.
+use Rattle.std.proofs.Common.{◌≡◌, ℕ, true, cond, List, [], ◌∷◌, ◌++◌, Option, Some, None, refl, sym, ap, subst, ◌∙◌, inl, inr}
+use Rattle.std.specs.Prelude.{codes, decimal, IfOk, Result, Ok, Err}
+use Rattle.std.specs.List.{position_or_len}
+use Rattle.std.specs.Str.{bytes_eq}
+use Rattle.std.proofs.lemmas.List.{append-nil, take-append-drop}
+use Rattle.std.proofs.lemmas.Slice.Eq.{bytes_eq-Decides}
+use Rattle.push_model.specs.declared.step.Actor.TheVariants.{Flight, Saver}
+use Rattle.push_model.specs.declared.step.Step.{Step}
+use Rattle.push_model.specs.declared.step.Step.TheVariants.{Create, Attach, Register, Begin, Direct, Heard, TakeDirect, Ack, Report}
+use Rattle.schedule_text.specs.declared.fault.LineFault.{LineFault}
+use Rattle.schedule_text.specs.Opened.{is_opened}
+use Rattle.schedule_text.specs.Words.{word, hex, token_word}
+use Rattle.schedule_text.specs.Spelling.{session_words, op_words, actor_words, ask_words, IsSession, IsOp, IsActor, IsChannel, IsToken, IsId, IsLineAsk, spell, AreInRange, InRange}
+use Rattle.schedule_text.specs.Reading.{Gives, is_space, first_word, after_word, both, session_at, op_at, channel_at, token_at, id_at, actor_at, ask_at, nothing_at, at_end, line_of, create_at, attach_at, register_at, begin_at, direct_at, heard_at, take_at, ack_at, report_at, by_verb, verbs, whole_line_at, line_at}
+use Rattle.schedule_text.proofs.Fields.{bind_some, if_some, some_is, chosen, Field, both_fields}
+use Rattle.schedule_text.proofs.ValueLaws.{token_field}
+use Rattle.schedule_text.proofs.FieldLaws.{session_field, op_field, channel_field, id_field, actor_field, ask_field}
+
+-- ---- a line of any fields
+
+end_takes : (rest : List ℕ) (step s : Step) → at_end rest step ≡ Some s → (rest ≡ []) × (step ≡ s)
+end_takes [] step s e = (refl, some_is step s e)
+end_takes (b ∷ rest) step s e = absurd cc
+
+-- the verb and what stands behind it are the line
+verb_line : (verb line args : List ℕ) → bytes_eq (first_word line) verb ≡ true → after_word line ≡ args → line ≡ verb ++ args
+verb_line verb line args h e =
+    let front : first_word line ≡ verb = (bytes_eq-Decides (first_word line) verb).0 h in
+    sym (take-append-drop (position_or_len is_space line) line) ∙ ap (λ (v : List ℕ). v ++ after_word line) front ∙ ap (λ (r : List ℕ). verb ++ r) e
+
+abbrev Is : List ℕ → Step → Type 0
+Is line s = (line ≡ spell s) × AreInRange s
+
+-- A line's fields, and what its step spells and keeps.
+record Line {A : Type 0} (verb : List ℕ) (read : List ℕ → Option (A × List ℕ)) (spelled : A → List ℕ) (fits : A → Type 0) (step : A → Step) : Type 0 where
+  field : Field read spelled fits
+  spells : (x : A) → spell (step x) ≡ verb ++ spelled x
+  ranges : (x : A) → fits x → AreInRange (step x)
+
+takes : {A : Type 0} {verb : List ℕ} {read : List ℕ → Option (A × List ℕ)} {spelled : A → List ℕ} {fits : A → Type 0} {step : A → Step} → Line verb read spelled fits step
+    → (line : List ℕ) (s : Step) → bytes_eq (first_word line) verb ≡ true → line_of step read (after_word line) ≡ Some s → Is line s
+takes {A} {verb} {read} {spelled} {fits} {step} l line s h e =
+    let a = bind_some (read (after_word line)) (λ x. at_end x.1 (step x.0)) s e in
+    let t = l.field.takes (after_word line) a.0 a.1 in
+    let d = end_takes a.0.1 (step a.0.0) s a.2 in
+    let args : after_word line ≡ spelled a.0.0 = t.0 ∙ ap (λ (r : List ℕ). spelled a.0.0 ++ r) d.0 ∙ append-nil (spelled a.0.0) in
+    subst (Is line) d.1 (verb_line verb line (spelled a.0.0) h args ∙ sym (l.spells a.0.0), l.ranges a.0.0 t.1)
+
+again : {A : Type 0} {verb : List ℕ} {read : List ℕ → Option (A × List ℕ)} {spelled : A → List ℕ} {fits : A → Type 0} {step : A → Step} → Line verb read spelled fits step
+    → (x : A) → fits x → line_of step read (spelled x) ≡ Some (step x)
+again {A} {verb} {read} {spelled} {fits} {step} l x h =
+    let e : read (spelled x) ≡ Some (x, []) = ap read (sym (append-nil (spelled x))) ∙ l.field.again x [] h tt in
+    rw e refl
+
+-- ---- the lines
+
+create_line : Line (codes "create") session_at session_words IsSession Create
+create_line = record { field = session_field; spells = λ x. refl; ranges = λ x h. h }
+
+attach_line : Line (codes "attach") session_at session_words IsSession Attach
+attach_line = record { field = session_field; spells = λ x. refl; ranges = λ x h. h }
+
+register_line :
+    Line (codes "register") (both session_at (both channel_at token_at)) (λ x. session_words x.0 ++ (word (hex x.1.0.0) ++ word (token_word x.1.1)))
+    (λ x. IsSession x.0 × (IsChannel x.1.0 × IsToken x.1.1)) (λ x. Register x.0 x.1.0 x.1.1)
+register_line = record { field = both_fields session_field (both_fields channel_field token_field); spells = λ x. refl; ranges = λ x h. h }
+
+begin_line :
+    Line (codes "begin") (both op_at (both token_at ask_at)) (λ x. op_words x.0 ++ (word (token_word x.1.0) ++ ask_words x.1.1))
+    (λ x. IsOp x.0 × (IsToken x.1.0 × IsLineAsk x.1.1)) (λ x. Begin x.0 x.1.0 x.1.1)
+begin_line = record { field = both_fields op_field (both_fields token_field ask_field); spells = λ x. refl; ranges = λ x h. h }
+
+direct_line : Line (codes "direct") op_at op_words IsOp Direct
+direct_line = record { field = op_field; spells = λ x. refl; ranges = λ x h. h }
+
+heard_line : Line (codes "heard") actor_at actor_words IsActor Heard
+heard_line = record { field = actor_field; spells = λ x. refl; ranges = λ x h. h }
+
+take_line : Line (codes "take") session_at session_words IsSession TakeDirect
+take_line = record { field = session_field; spells = λ x. refl; ranges = λ x h. h }
+
+ack_line :
+    Line (codes "ack") (both session_at (both channel_at id_at)) (λ x. session_words x.0 ++ (word (hex x.1.0.0) ++ word (decimal x.1.1.number)))
+    (λ x. IsSession x.0 × (IsChannel x.1.0 × IsId x.1.1)) (λ x. Ack x.0 x.1.0 x.1.1)
+ack_line = record { field = both_fields session_field (both_fields channel_field id_field); spells = λ x. refl; ranges = λ x h. h }
+
+nothing_field : Field nothing_at (λ x. []) (λ x. Unit {0})
+nothing_field = record {
+  takes = λ bytes x e. (ap (λ (y : Unit {0} × List ℕ). y.1) (some_is (tt, bytes) x e), tt);
+  again = λ x rest h brk. refl;
+  breaks = λ x rest h brk. brk;
+}
+
+report_line : Line (codes "report") nothing_at (λ x. []) (λ x. Unit {0}) (λ x. Report)
+report_line = record { field = nothing_field; spells = λ x. refl; ranges = λ x h. tt }
+
+-- ---- all verbs
+
+abbrev AllTake : List (List ℕ × (List ℕ → Option Step)) → Type 0
+AllTake [] = Unit {0}
+AllTake (v ∷ vs) = ((line : List ℕ) (s : Step) → bytes_eq (first_word line) v.0 ≡ true → v.1 (after_word line) ≡ Some s → Is line s) × AllTake vs
+
+verbs_take : AllTake verbs
+unfolding create_at attach_at register_at begin_at direct_at heard_at take_at ack_at report_at
+verbs_take =
+    (takes create_line, (takes attach_line, (takes register_line, (takes begin_line, (takes direct_line, (takes heard_line, (takes take_line, (takes ack_line, (takes report_line, tt)))))))))
+
+verb_takes : (vs : List (List ℕ × (List ℕ → Option Step))) → AllTake vs → (line : List ℕ) (s : Step) → by_verb vs (first_word line) (after_word line) ≡ Some s → Is line s
+verb_takes [] all line s e = absurd cc
+verb_takes (v ∷ vs) all line s e =
+    elim (chosen (bytes_eq (first_word line) v.0) _ _ _ e) [
+      | inl h ↦ all.0 line s h.0 h.1
+      | inr h ↦ verb_takes vs all.1 line s h.1
+    ]
+
+whole_again : (s : Step) → AreInRange s → whole_line_at (spell s) ≡ Some s
+unfolding whole_line_at create_at attach_at register_at begin_at direct_at heard_at take_at ack_at report_at
+whole_again (Create s) h = again create_line s h
+whole_again (Attach s) h = again attach_line s h
+whole_again (Register s c t) h = again register_line (s, (c, t)) h
+whole_again (Begin o t a) h = again begin_line (o, (t, a)) h
+whole_again (Direct o) h = again direct_line o h
+whole_again (Heard (Flight o)) h = again heard_line (Flight o) h
+whole_again (Heard (Saver x)) h = again heard_line (Saver x) h
+whole_again (TakeDirect s) h = again take_line s h
+whole_again (Ack s c i) h = again ack_line (s, (c, i)) h
+whole_again Report h = again report_line tt tt
+
+-- ---- the lines for which the grammar is opened
+
+pub line_takes : (line : List ℕ) (s : Step) → line_at line ≡ Some s → (line ≡ spell s) × InRange s
+unfolding line_at whole_line_at
+line_takes line s e =
+    let a = bind_some (whole_line_at line) (λ x. cond (is_opened x) (Some x) None) s e in
+    let g = if_some (is_opened a.0) (Some a.0) s a.2 in
+    let t = verb_takes verbs verbs_take line a.0 a.1 in
+    subst (λ (x : Step). (line ≡ spell x) × InRange x) (some_is a.0 s g.1) (t.0, record { fields = t.1; opened = g.0 })
+
+pub line_again : (s : Step) → InRange s → line_at (spell s) ≡ Some s
+unfolding line_at
+line_again s h = rw (whole_again s h.fields, h.opened) refl
+
+pub is_found : (line : List ℕ) (r : Result Step LineFault) → Gives (λ x. x) r (line_at line) → IfOk r (λ s. (line ≡ spell s) × InRange s)
+is_found line (Ok s) h = line_takes line s h
+is_found line (Err e) h = tt

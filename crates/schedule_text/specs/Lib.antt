@@ -1,0 +1,5 @@
+pub mod Words
+pub mod Spelling
+pub mod Opened
+pub mod Replies
+pub mod Reading

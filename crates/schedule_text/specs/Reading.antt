@@ -1,0 +1,261 @@
+-- Reading a line from left to right. Each value is read and then compared with its spelling.
+use Rattle.std.specs.Prelude.{◌≡◌, ℕ, ◌+◌, ◌-◌, ◌^◌, List, [], ◌∷◌, ◌++◌, length, drop, replicate, codes, Bool, false, ◌&&◌, Option, Some, None, Result, Ok, Err, nat_lt, nat_le, ◌==◌, if◌then◌else◌}
+use Rattle.std.specs.Fmt.{digits}
+use Rattle.std.specs.List.{before_first, position_or_len}
+use Rattle.std.specs.Str.{bytes_eq}
+use Rattle.std.specs.Str.Parse.{digits_value}
+use Rattle.hex.specs.Hex.{encode_lower, decode_of, decode_sized}
+use Rattle.hex.specs.declared.error.FromHexError.{FromHexError}
+use Rattle.push_model.specs.declared.ask.Urgency.{Urgency}
+use Rattle.push_model.specs.declared.ask.Urgency.TheVariants.{VeryLow, Low, Normal, High}
+use Rattle.push_model.specs.declared.ids.ChannelId.{ChannelId}
+use Rattle.push_model.specs.declared.ids.MsgId.{MsgId}
+use Rattle.push_model.specs.declared.ids.Op.{Op}
+use Rattle.push_model.specs.declared.ids.Token.{Token}
+use Rattle.push_model.specs.declared.step.Actor.{Actor}
+use Rattle.push_model.specs.declared.step.Actor.TheVariants.{Flight, Saver}
+use Rattle.push_model.specs.declared.step.Step.{Step}
+use Rattle.push_model.specs.declared.step.Step.TheVariants.{Create, Attach, Register, Begin, Direct, Heard, TakeDirect, Ack, Report}
+use Rattle.push_model.specs.AskValue.{AskValue}
+use Rattle.push_model.specs.SessionKey.{SessionKey}
+use Rattle.push_model.specs.Topics.{is_topic}
+use Rattle.schedule_text.specs.declared.fault.LineFault.{LineFault}
+use Rattle.schedule_text.specs.declared.fault.LineFault.TheVariants.{Outside, NoMemory}
+use Rattle.schedule_text.specs.Opened.{is_opened}
+use Rattle.schedule_text.specs.Spelling.{coding_of}
+use Rattle.schedule_text.specs.Words.{token_word}
+
+infixl 10 ◌>>=◌
+abbrev pub ◌>>=◌ : {A B : Type 0} → Option A → (A → Option B) → Option B
+(Some x) >>= f = f x
+None >>= f = None
+
+-- what an error says of what reading gives: nothing, if memory ran out
+abbrev pub Fails : {Y : Type 0} → LineFault → Option Y → Type 0
+Fails Outside read = read ≡ None
+Fails NoMemory read = Unit {0}
+
+-- What a function returned, seen by view, is what reading gives, unless memory ran out.
+abbrev pub Gives : {X Y : Type 0} → (X → Y) → Result X LineFault → Option Y → Type 0
+Gives view (Ok x) read = read ≡ Some (view x)
+Gives view (Err e) read = Fails e read
+
+-- The same of a function that takes its value from the front, and leaves the rest.
+abbrev pub Takes : {X Y : Type 0} → (X → Y) → Result X LineFault → Option (Y × List ℕ) → List ℕ → Type 0
+Takes view (Ok x) read rest = read ≡ Some (view x, rest)
+Takes view (Err e) read rest = Fails e read
+
+-- ---- words
+
+abbrev pub is_space : ℕ → Bool
+is_space b = b == 32
+
+abbrev pub first_word : List ℕ → List ℕ
+first_word bytes = before_first is_space bytes
+
+abbrev pub after_word : List ℕ → List ℕ
+after_word bytes = drop (position_or_len is_space bytes) bytes
+
+-- the word behind a space, and what stands after it
+unfoldable pub word_at : List ℕ → Option (List ℕ × List ℕ)
+word_at [] = None
+word_at (b ∷ bytes) = if b == 32 then Some (first_word bytes, after_word bytes) else None
+
+-- ---- values of words
+
+-- the number below the limit that is written so in that base
+unfoldable pub numeral_value : ℕ → ℕ → List ℕ → Option ℕ
+numeral_value base limit w =
+    if nat_lt (digits_value base w) limit && bytes_eq (digits base false (digits_value base w)) w then Some (digits_value base w) else None
+
+unfoldable pub decimal_value : ℕ → ℕ → List ℕ → Option ℕ
+decimal_value low high w = do
+  n ← numeral_value 10 (high + 1) w
+  if nat_le low n then Some n else None
+
+-- the 48 digits of a token, with zeros in front
+abbrev pub padded : List ℕ → List ℕ
+padded w = replicate (48 - length w) 48 ++ w
+
+abbrev pub checked_token : List ℕ → Result (List ℕ) FromHexError → Option Token
+checked_token w (Ok bytes) = if bytes_eq (token_word (record { 0 = bytes })) w then Some (record { 0 = bytes }) else None
+checked_token w (Err e) = None
+
+unfoldable pub token_value : List ℕ → Option Token
+token_value w = if nat_le (length w) 48 then checked_token w (decode_sized (padded w) 24) else None
+
+unfoldable pub topic_value : List ℕ → Option (Option (List ℕ))
+topic_value w =
+    if bytes_eq w (codes ".") then Some None
+    else if is_topic w then Some (Some w)
+    else None
+
+unfoldable pub urgency_value : List ℕ → Option Urgency
+urgency_value w =
+    if bytes_eq w (codes "very-low") then Some VeryLow
+    else if bytes_eq w (codes "low") then Some Low
+    else if bytes_eq w (codes "normal") then Some Normal
+    else if bytes_eq w (codes "high") then Some High
+    else None
+
+abbrev pub checked_payload : List ℕ → Result (List ℕ) FromHexError → Option (List ℕ)
+checked_payload w (Ok bytes) = if nat_lt 0 (length bytes) && bytes_eq (encode_lower bytes) w then Some bytes else None
+checked_payload w (Err e) = None
+
+unfoldable pub payload_value : List ℕ → Option (List ℕ)
+payload_value w =
+    if bytes_eq w (codes ".") then Some []
+    else if nat_le (length w) 8192 then checked_payload w (decode_of w)
+    else None
+
+-- ---- fields: a value and what stands after it
+
+-- the word behind a space, by its value
+abbrev pub field_at : {A : Type 0} → (List ℕ → Option A) → List ℕ → Option (A × List ℕ)
+field_at value bytes = do
+  w ← word_at bytes
+  v ← value w.0
+  Some (v, w.1)
+
+-- one after the other
+abbrev pub both : {A B : Type 0} → (List ℕ → Option (A × List ℕ)) → (List ℕ → Option (B × List ℕ)) → List ℕ → Option ((A × B) × List ℕ)
+both first second bytes = do
+  a ← first bytes
+  b ← second a.1
+  Some ((a.0, b.0), b.1)
+
+-- what is made of the fields
+abbrev pub made_at : {A B : Type 0} → (A → B) → (List ℕ → Option (A × List ℕ)) → List ℕ → Option (B × List ℕ)
+made_at make read bytes = do
+  x ← read bytes
+  Some (make x.0, x.1)
+
+unfoldable pub hex_at : List ℕ → Option (ℕ × List ℕ)
+hex_at bytes = field_at (numeral_value 16 (2 ^ 128)) bytes
+
+unfoldable pub decimal_at : ℕ → ℕ → List ℕ → Option (ℕ × List ℕ)
+decimal_at low high bytes = field_at (decimal_value low high) bytes
+
+unfoldable pub token_at : List ℕ → Option (Token × List ℕ)
+token_at bytes = field_at token_value bytes
+
+unfoldable pub topic_at : List ℕ → Option (Option (List ℕ) × List ℕ)
+topic_at bytes = field_at topic_value bytes
+
+unfoldable pub urgency_at : List ℕ → Option (Urgency × List ℕ)
+urgency_at bytes = field_at urgency_value bytes
+
+unfoldable pub payload_at : List ℕ → Option (List ℕ × List ℕ)
+payload_at bytes = field_at payload_value bytes
+
+-- ---- fields of several words
+
+abbrev pub session_of : ℕ × (ℕ × ℕ) → SessionKey
+session_of x = record { uaid = record { 0 = x.0 }; node = x.1.0; at = x.1.1 }
+
+unfoldable pub session_at : List ℕ → Option (SessionKey × List ℕ)
+session_at bytes = made_at session_of (both hex_at (both (decimal_at 1 8) (decimal_at 0 (2 ^ 63 - 1)))) bytes
+
+abbrev pub op_of : ℕ × ℕ → Op
+op_of x = record { pass = x.0; k = x.1 }
+
+unfoldable pub op_at : List ℕ → Option (Op × List ℕ)
+op_at bytes = made_at op_of (both (decimal_at 0 (2 ^ 64 - 1)) (decimal_at 0 (2 ^ 63 - 1))) bytes
+
+abbrev pub channel_of : ℕ → ChannelId
+channel_of n = record { 0 = n }
+
+unfoldable pub channel_at : List ℕ → Option (ChannelId × List ℕ)
+channel_at bytes = made_at channel_of hex_at bytes
+
+abbrev pub id_of : ℕ → MsgId
+id_of n = record { shard = 0; number = n }
+
+unfoldable pub id_at : List ℕ → Option (MsgId × List ℕ)
+id_at bytes = made_at id_of (decimal_at 1 (2 ^ 63 - 1)) bytes
+
+-- the actor of that tag
+abbrev pub tagged_at : List ℕ × List ℕ → Option (Actor × List ℕ)
+tagged_at tag =
+    if bytes_eq tag.0 (codes "f") then made_at Flight op_at tag.1
+    else if bytes_eq tag.0 (codes "s") then made_at Saver session_at tag.1
+    else None
+
+unfoldable pub actor_at : List ℕ → Option (Actor × List ℕ)
+actor_at bytes = word_at bytes >>= tagged_at
+
+abbrev pub ask_of : ℕ × (Option (List ℕ) × (Urgency × List ℕ)) → AskValue
+ask_of x =
+    record {
+      terms = record { ttl = x.0; topic = x.1.0; urgency = x.1.1.0; coding = coding_of x.1.1.1 };
+      encryption = [];
+      crypto_key = [];
+      payload = x.1.1.1;
+    }
+
+unfoldable pub ask_at : List ℕ → Option (AskValue × List ℕ)
+ask_at bytes = made_at ask_of (both (decimal_at 0 2592000) (both topic_at (both urgency_at payload_at))) bytes
+
+-- ---- lines
+
+-- the step, where nothing stands after it
+abbrev pub at_end : List ℕ → Step → Option Step
+at_end [] step = Some step
+at_end (b ∷ bytes) step = None
+
+-- the step of these fields, where nothing stands after them
+abbrev pub line_of : {A : Type 0} → (A → Step) → (List ℕ → Option (A × List ℕ)) → List ℕ → Option Step
+line_of step read bytes = read bytes >>= λ x. at_end x.1 (step x.0)
+
+unfoldable pub create_at : List ℕ → Option Step
+create_at bytes = line_of Create session_at bytes
+
+unfoldable pub attach_at : List ℕ → Option Step
+attach_at bytes = line_of Attach session_at bytes
+
+unfoldable pub register_at : List ℕ → Option Step
+register_at bytes = line_of (λ x. Register x.0 x.1.0 x.1.1) (both session_at (both channel_at token_at)) bytes
+
+unfoldable pub begin_at : List ℕ → Option Step
+begin_at bytes = line_of (λ x. Begin x.0 x.1.0 x.1.1) (both op_at (both token_at ask_at)) bytes
+
+unfoldable pub direct_at : List ℕ → Option Step
+direct_at bytes = line_of Direct op_at bytes
+
+unfoldable pub heard_at : List ℕ → Option Step
+heard_at bytes = line_of Heard actor_at bytes
+
+unfoldable pub take_at : List ℕ → Option Step
+take_at bytes = line_of TakeDirect session_at bytes
+
+unfoldable pub ack_at : List ℕ → Option Step
+ack_at bytes = line_of (λ x. Ack x.0 x.1.0 x.1.1) (both session_at (both channel_at id_at)) bytes
+
+-- no word
+abbrev pub nothing_at : List ℕ → Option (Unit {0} × List ℕ)
+nothing_at bytes = Some (tt, bytes)
+
+unfoldable pub report_at : List ℕ → Option Step
+report_at bytes = line_of (λ x. Report) nothing_at bytes
+
+-- the first of the verbs that is this word reads what stands behind it
+abbrev pub by_verb : List (List ℕ × (List ℕ → Option Step)) → List ℕ → List ℕ → Option Step
+by_verb [] w bytes = None
+by_verb (line ∷ lines) w bytes = if bytes_eq w line.0 then line.1 bytes else by_verb lines w bytes
+
+-- each verb, and how what stands behind it is read
+abbrev pub verbs : List (List ℕ × (List ℕ → Option Step))
+verbs =
+    (codes "create", create_at) ∷ (codes "attach", attach_at) ∷ (codes "register", register_at) ∷ (codes "begin", begin_at)
+    ∷ (codes "direct", direct_at) ∷ (codes "heard", heard_at) ∷ (codes "take", take_at) ∷ (codes "ack", ack_at)
+    ∷ (codes "report", report_at) ∷ []
+
+-- the step of a line of the whole grammar
+unfoldable pub whole_line_at : List ℕ → Option Step
+whole_line_at line = by_verb verbs (first_word line) (after_word line)
+
+-- the step of a line, as far as the grammar is opened
+unfoldable pub line_at : List ℕ → Option Step
+line_at line = do
+  s ← whole_line_at line
+  if is_opened s then Some s else None

@@ -1,0 +1,73 @@
+-- The line of each reply, with its LF.
+use Rattle.std.specs.Prelude.{ℕ, List, [], ◌∷◌, ◌++◌, codes, decimal, Option, Some, None}
+use Rattle.std.specs.List.{flat_map}
+use Rattle.push_model.specs.declared.reply.AckedFrom.{AckedFrom}
+use Rattle.push_model.specs.declared.reply.AckedFrom.TheVariants.{Direct as FromDirect, Stored as FromStored}
+use Rattle.push_model.specs.declared.reply.Reply.{Reply}
+use Rattle.push_model.specs.declared.reply.Reply.TheVariants.{Made, Taken, NotClaimed, NodeDown, Outrun, Attached, Endpoint, TokenTaken, NoSession, NoFlight, Stage as StageIs, NoToken, IdsSpent, Begun, Here, NotHere, End, Moved, Page, Acked, Unknown, Counts as CountsAre}
+use Rattle.push_model.specs.declared.step.Stage.{Stage}
+use Rattle.push_model.specs.declared.step.Stage.TheVariants.{Direct, Told, Store, Reread, Nudge, ToldNudge, Clear, Saving, Idle, Topic, Plain, Displaced}
+use Rattle.push_model.specs.MessageValue.{MessageValue}
+use Rattle.schedule_text.specs.Words.{word, hex, token_word, payload_word}
+
+abbrev pub lf : List ℕ
+lf = 10 ∷ []
+
+-- a dot for none
+abbrev pub or_dot : Option ℕ → List ℕ
+or_dot None = codes "."
+or_dot (Some n) = decimal n
+
+abbrev pub stage_word : Stage → List ℕ
+stage_word (Direct n a) = codes "direct"
+stage_word (Told given) = codes "told"
+stage_word Store = codes "store"
+stage_word Reread = codes "reread"
+stage_word (Nudge n a) = codes "nudge"
+stage_word (ToldNudge given n a) = codes "toldnudge"
+stage_word (Clear n a) = codes "clear"
+stage_word Saving = codes "saving"
+stage_word Idle = codes "idle"
+stage_word Topic = codes "topic"
+stage_word Plain = codes "plain"
+stage_word Displaced = codes "displaced"
+
+abbrev pub list_word : AckedFrom → List ℕ
+list_word FromDirect = codes "direct"
+list_word FromStored = codes "stored"
+
+-- a node and a moment, or a dot for none
+abbrev pub place_words : Option (ℕ × ℕ) → List ℕ
+place_words None = word (codes ".")
+place_words (Some p) = word (decimal p.0) ++ word (decimal p.1)
+
+-- the number of its id, its channel and its payload
+abbrev pub message_word : MessageValue → List ℕ
+message_word m = decimal m.id.number ++ (58 ∷ (hex m.chid.0 ++ (58 ∷ payload_word m.ask.payload)))
+
+abbrev pub reply_line : Reply → List ℕ
+reply_line Made = codes "made\n"
+reply_line Taken = codes "taken\n"
+reply_line NotClaimed = codes "notclaimed\n"
+reply_line NodeDown = codes "nodedown\n"
+reply_line (Outrun a) = codes "outrun" ++ (word (decimal a) ++ lf)
+reply_line (Attached displaced) = codes "attached" ++ (word (or_dot displaced) ++ lf)
+reply_line (Endpoint t) = codes "endpoint" ++ (word (token_word t) ++ lf)
+reply_line TokenTaken = codes "tokentaken\n"
+reply_line NoSession = codes "nosession\n"
+reply_line NoFlight = codes "noflight\n"
+reply_line (StageIs stage) = codes "stage" ++ (word (stage_word stage) ++ lf)
+reply_line NoToken = codes "notoken\n"
+reply_line IdsSpent = codes "idsspent\n"
+reply_line (Begun i place) = codes "begun" ++ (word (decimal i.number) ++ (place_words place ++ lf))
+reply_line (Here u) = codes "here\n"
+reply_line NotHere = codes "nothere\n"
+reply_line (End code) = codes "end" ++ (word (decimal code) ++ lf)
+reply_line (Moved stage) = codes "moved" ++ (word (stage_word stage) ++ lf)
+reply_line (Page messages) = codes "page" ++ (flat_map (λ m. word (message_word m)) messages ++ lf)
+reply_line (Acked from) = codes "acked" ++ (word (list_word from) ++ lf)
+reply_line Unknown = codes "unknown\n"
+reply_line (CountsAre c) =
+    codes "report users" ++ (word (decimal c.users) ++ (codes " stored" ++ (word (decimal c.stored) ++ (codes " held" ++ (word (decimal c.held)
+    ++ (codes " flights" ++ (word (decimal c.flights) ++ (codes " unsent" ++ (word (decimal c.unsent) ++ (codes " orphans" ++ (word (decimal c.orphans)
+    ++ (codes " waiting" ++ (word (decimal c.waiting) ++ lf)))))))))))))

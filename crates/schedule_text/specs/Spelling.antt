@@ -1,0 +1,111 @@
+-- The one spelling of each step, and the steps that have one in the grammar.
+use Rattle.std.specs.Prelude.{◌≡◌, ℕ, ◌^◌, ◌<◌, ◌≤◌, List, [], ◌∷◌, ◌++◌, length, codes, decimal, true, IfSome}
+use Rattle.hex.specs.Hex.{IsBytes}
+use Rattle.push_model.specs.declared.ask.Coding.{Coding}
+use Rattle.push_model.specs.declared.ask.Coding.TheVariants.{Bare, Aes128gcm}
+use Rattle.push_model.specs.declared.ids.ChannelId.{ChannelId}
+use Rattle.push_model.specs.declared.ids.MsgId.{MsgId}
+use Rattle.push_model.specs.declared.ids.Op.{Op}
+use Rattle.push_model.specs.declared.ids.Token.{Token}
+use Rattle.push_model.specs.declared.step.Actor.{Actor}
+use Rattle.push_model.specs.declared.step.Actor.TheVariants.{Flight, Saver}
+use Rattle.push_model.specs.declared.step.Step.{Step}
+use Rattle.push_model.specs.declared.step.Step.TheVariants.{Create, Attach, Register, Begin, Direct, Heard, TakeDirect, Ack, Report}
+use Rattle.push_model.specs.AskValue.{AskValue}
+use Rattle.push_model.specs.SessionKey.{SessionKey}
+use Rattle.push_model.specs.Topics.{IsTopic}
+use Rattle.schedule_text.specs.Opened.{is_opened}
+use Rattle.schedule_text.specs.Words.{word, hex, token_word, topic_word, urgency_word, payload_word}
+
+-- ---- words that stand together
+
+abbrev pub session_words : SessionKey → List ℕ
+session_words s = word (hex s.uaid.0) ++ (word (decimal s.node) ++ word (decimal s.at))
+
+abbrev pub op_words : Op → List ℕ
+op_words o = word (decimal o.pass) ++ word (decimal o.k)
+
+abbrev pub actor_words : Actor → List ℕ
+actor_words (Flight o) = word (codes "f") ++ op_words o
+actor_words (Saver s) = word (codes "s") ++ session_words s
+
+-- the coding and the two headers have no words
+abbrev pub ask_words : AskValue → List ℕ
+ask_words a =
+    word (decimal a.terms.ttl) ++ (word (topic_word a.terms.topic) ++ (word (urgency_word a.terms.urgency) ++ word (payload_word a.payload)))
+
+-- ---- lines, without the LF
+
+abbrev pub spell : Step → List ℕ
+spell (Create s) = codes "create" ++ session_words s
+spell (Attach s) = codes "attach" ++ session_words s
+spell (Register s h t) = codes "register" ++ (session_words s ++ (word (hex h.0) ++ word (token_word t)))
+spell (Begin o t a) = codes "begin" ++ (op_words o ++ (word (token_word t) ++ ask_words a))
+spell (Direct o) = codes "direct" ++ op_words o
+spell (Heard actor) = codes "heard" ++ actor_words actor
+spell (TakeDirect s) = codes "take" ++ session_words s
+spell (Ack s h i) = codes "ack" ++ (session_words s ++ (word (hex h.0) ++ word (decimal i.number)))
+spell Report = codes "report"
+
+-- ---- ranges
+
+pub record IsSession (s : SessionKey) : Type 0 where
+  pub uaid : s.uaid.0 < 2 ^ 128
+  pub node_low : 1 ≤ s.node
+  pub node_high : s.node ≤ 8
+  pub at : s.at < 2 ^ 63
+
+pub record IsOp (o : Op) : Type 0 where
+  pub pass : o.pass < 2 ^ 64
+  pub k : o.k < 2 ^ 63
+
+abbrev pub IsActor : Actor → Type 0
+IsActor (Flight o) = IsOp o
+IsActor (Saver s) = IsSession s
+
+abbrev pub IsChannel : ChannelId → Type 0
+IsChannel h = h.0 < 2 ^ 128
+
+pub record IsToken (t : Token) : Type 0 where
+  pub size : length t.0 ≡ 24
+  pub bytes : IsBytes t.0
+
+-- the shard of a line is 0
+pub record IsId (i : MsgId) : Type 0 where
+  pub shard : i.shard ≡ 0
+  pub low : 1 ≤ i.number
+  pub high : i.number < 2 ^ 63
+
+pub record IsPayload (payload : List ℕ) : Type 0 where
+  pub short : length payload ≤ 4096
+  pub bytes : IsBytes payload
+
+-- a message without payload is bare
+abbrev pub coding_of : List ℕ → Coding
+coding_of [] = Bare
+coding_of (b ∷ bytes) = Aes128gcm
+
+pub record IsLineAsk (a : AskValue) : Type 0 where
+  pub ttl : a.terms.ttl ≤ 2592000
+  pub topic : IfSome a.terms.topic IsTopic
+  pub coding : a.terms.coding ≡ coding_of a.payload
+  pub encryption : a.encryption ≡ []
+  pub crypto_key : a.crypto_key ≡ []
+  pub payload : IsPayload a.payload
+
+-- the fields are in their ranges
+abbrev pub AreInRange : Step → Type 0
+AreInRange (Create s) = IsSession s
+AreInRange (Attach s) = IsSession s
+AreInRange (Register s h t) = IsSession s × (IsChannel h × IsToken t)
+AreInRange (Begin o t a) = IsOp o × (IsToken t × IsLineAsk a)
+AreInRange (Direct o) = IsOp o
+AreInRange (Heard actor) = IsActor actor
+AreInRange (TakeDirect s) = IsSession s
+AreInRange (Ack s h i) = IsSession s × (IsChannel h × IsId i)
+AreInRange Report = Unit {0}
+
+-- a step that has a line in the grammar, as far as the grammar is opened
+pub record InRange (s : Step) : Type 0 where
+  pub fields : AreInRange s
+  pub opened : is_opened s ≡ true

@@ -1,0 +1,23 @@
+//! The schedule language: steps of a shard as lines, and the lines of replies.
+//!
+//! A line is words with exactly one space between them, and its LF is no part of it. `specs/Spelling` spells each step,
+//! and `specs/Replies` each reply. Each step in range has one line and each line at most one step: what is read is
+//! spelled so, and what is spelled so is read.
+#![tactic(auto)]
+
+mod fault;
+mod hex_text;
+mod line;
+mod opened;
+mod print;
+mod reply;
+mod values;
+mod words;
+
+pub use fault::LineFault;
+pub use line::read_line;
+pub use print::print_step;
+pub use reply::print_reply;
+
+#[cfg(test)]
+mod tests;

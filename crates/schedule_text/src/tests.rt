@@ -1,0 +1,138 @@
+use super::*;
+use push_model::{
+    AckedFrom, Ask, Blob, ChannelId, Coding, Counts, Message, MsgId, NodeId, Pages, Reply, Shared,
+    Stage, Terms, Text, Token, Uaid, Urgency,
+};
+use std::alloc::Global;
+use std::test::Fail;
+
+/// The line of the step that is read from the line.
+fn again(alloc: Global, line: &str) -> Result<Text, LineFault> {
+    let step = read_line(alloc, line.as_bytes())?;
+    print_step(alloc, &step).map_err(|_| LineFault::NoMemory)
+}
+
+#[test]
+fn reads_lines_and_prints_them_again(rt: HostRuntime) -> Result<(), Fail> {
+    let alloc = rt.alloc();
+    for line in [
+        "create 1 1 100",
+        "attach 1 1 9223372036854775807",
+        "register 1 1 100 ff a0b1",
+        "register 1 1 100 0 123456789abcdef0123456789abcdef0123456789abcdef0",
+        "begin 18446744073709551615 9223372036854775807 0 2592000 . normal .",
+        "begin 3 7 a0b1 60 . normal 00ff",
+        "direct 3 7",
+        "heard f 3 7",
+        "take 1 1 100",
+        "ack 1 1 100 ff 12",
+        "report",
+    ] {
+        let text = again(alloc, line)?;
+        assert_eq!(rt; text.as_str(), line);
+    }
+    for line in [
+        "",
+        " report",
+        "report ",
+        "report\n",
+        "create 1  1 100",
+        "create 01 1 100",
+        "create 2 1 100",
+        "create 1 2 100",
+        "create 1 1 9223372036854775808",
+        "create 1 1 +1",
+        "register 1 1 100 FF a0b1",
+        "register 1 1 100 ff 0a0b1",
+        "begin 3 7 a0b1 0 . normal 00ff",
+        "begin 3 7 a0b1 60 topic normal 00ff",
+        "begin 3 7 a0b1 60 . low 00ff",
+        "begin 3 7 a0b1 60 . normal 00f",
+        "begin 3 7 a0b1 60 . normal 00fF",
+        "begin 3 7 a0b1 2592001 . normal 00ff",
+        "heard s 1 1 100",
+        "ack 1 1 100 ff 0",
+    ] {
+        assert_eq!(rt;
+            again(alloc, line).err(),
+            Some(LineFault::Outside),
+            "{line}"
+        );
+    }
+    Ok(())
+}
+
+fn message(alloc: Global, number: u64, payload: &[u8]) -> Result<Shared, Fail> {
+    let coding = if payload.is_empty() {
+        Coding::Bare
+    } else {
+        Coding::Aesgcm
+    };
+    let ask = Ask {
+        terms: Terms {
+            ttl: 60,
+            topic: None,
+            urgency: Urgency::Normal,
+            coding,
+        },
+        encryption: Blob::copy(alloc, b"")?,
+        crypto_key: Blob::copy(alloc, b"")?,
+        payload: Blob::copy(alloc, payload)?,
+    };
+    let message = Message {
+        id: MsgId { shard: 0, number },
+        uaid: Uaid(1),
+        chid: ChannelId(255),
+        ask,
+        accepted: 0,
+    };
+    Ok(Shared::new(alloc, message)?)
+}
+
+#[test]
+fn prints_replies(rt: HostRuntime) -> Result<(), Fail> {
+    let alloc = rt.alloc();
+    let node = NodeId::new(2);
+    let id = MsgId {
+        shard: 0,
+        number: 12,
+    };
+    let mut bytes = [0; 24];
+    bytes[22] = 10;
+    let mut pages = Pages::new(alloc);
+    pages.push(message(alloc, 12, &[0, 255])?)?;
+    pages.push(message(alloc, 13, b"")?)?;
+    let counts = Counts {
+        users: 1,
+        stored: 2,
+        held: 3,
+        flights: 4,
+        unsent: 5,
+        orphans: 6,
+        waiting: 7,
+    };
+    for (reply, line) in [
+        (Reply::NotClaimed, "notclaimed\n"),
+        (Reply::Attached(None), "attached .\n"),
+        (Reply::Attached(Some(100)), "attached 100\n"),
+        (Reply::Endpoint(Token(bytes)), "endpoint a00\n"),
+        (Reply::Stage(Stage::Told(true)), "stage told\n"),
+        (Reply::Begun(id, None), "begun 12 .\n"),
+        (
+            Reply::Begun(id, node.map(|node| (node, 100))),
+            "begun 12 2 100\n",
+        ),
+        (Reply::Here(Uaid(1)), "here\n"),
+        (Reply::End(201), "end 201\n"),
+        (Reply::Page(pages), "page 12:ff:00ff 13:ff:.\n"),
+        (Reply::Acked(AckedFrom::Stored), "acked stored\n"),
+        (
+            Reply::Counts(counts),
+            "report users 1 stored 2 held 3 flights 4 unsent 5 orphans 6 waiting 7\n",
+        ),
+    ] {
+        let text = print_reply(alloc, &reply)?;
+        assert_eq!(rt; text.as_str(), line);
+    }
+    Ok(())
+}

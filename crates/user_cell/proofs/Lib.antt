@@ -1,0 +1,3 @@
+mod AckLemmas
+mod CellLemmas
+mod PageLemmas
