@@ -4,12 +4,16 @@ use Rattle.std.specs.Prelude.{IfSome}
 use Rattle.std.specs.List.{AllByRecursion}
 use Rattle.std.specs.Io.KnownBytes.{Consumes, Appends, Keeps}
 use Rattle.std.proofs.lemmas.List.{append-nil, length-append}
-use Rattle.push_model.specs.Worlds.{World, step}
+use Rattle.push_model.specs.Worlds.{World, start, step}
+use Rattle.push_model.specs.Histories.{history, IsLegal}
+use Rattle.push_model.specs.Accounting.{IsAccounted}
+use Rattle.push_model.specs.declared.entry.Entry.{Entry}
+use Rattle.push_model.specs.declared.reply.Reply.{Reply}
 use Rattle.push_model.specs.declared.step.Step.{Step}
 use Rattle.schedule_text.specs.Spelling.{spell, InRange}
 use Rattle.schedule_text.specs.Replies.{reply_line}
 use Rattle.autopush_main.specs.Lines.{NoLf, Moves}
-use Rattle.autopush_main.specs.Replay.{beginning, IsLine, AreLines, IsRefused, lines_of, text, world_of, refusal, ended, IsDone, IsRefusal, IsBroken}
+use Rattle.autopush_main.specs.Replay.{beginning, IsLine, AreLines, IsRefused, lines_of, text, world_of, AreAccounted, refusal, ended, IsDone, IsRefusal, IsBroken}
 use Rattle.autopush_main.specs.Turns.{Kept, NotTaken, Advances, Finishes, Refuses, Turns, Replays, PieceOfFirst, Cuts, IsCut}
 use Rattle.autopush_main.specs.declared.turn.End.{End}
 use Rattle.autopush_main.specs.declared.turn.End.TheVariants as ends
@@ -123,9 +127,13 @@ from_now None now read P Q c q h = tt
 from_now (Some all) None read P Q c q h = absurd c
 from_now (Some all) (Some left) read P Q c q h = subst P (sym c) (h left q)
 
-pub done_from : (before now after : Option (List ℕ)) (pending : List ℕ) (count : ℕ) (world : World) (held written more : Option (List ℕ))
+-- each list of steps is accounted
+abbrev pub Law : Type 0
+Law = (steps : List Step) → AreAccounted steps
+
+pub done_from : Law → (before now after : Option (List ℕ)) (pending : List ℕ) (count : ℕ) (world : World) (held written more : Option (List ℕ))
     → Progress before now pending count world held written → Finishes now after pending count world written more → IsDone before after held more
-done_from before now after pending count world held written more p f =
+done_from law before now after pending count world held written more p f =
     let read = (ended p.steps ++ pending) ++ f.read in
     let lines : AreLines (lines_of read) (p.steps ++ f.steps) =
     subst (λ (ls : List (List ℕ)). AreLines ls (p.steps ++ f.steps)) (sym (ap lines_of (append_assoc (ended p.steps) pending f.read) ∙ lines_of-ended p.steps (pending ++ f.read) p.kept)) (are_lines-append p.steps f.steps (lines_of (pending ++ f.read)) p.kept f.lines) in
@@ -139,11 +147,12 @@ done_from before now after pending count world held written more p f =
       lines = lines;
       count = omega (arith, p.counted, f.room, length-append p.steps f.steps);
       output = subst (Appends held more) replied (Appends-then held written more (text beginning p.steps) (text world f.steps) p.output f.output);
+      accounted = law (p.steps ++ f.steps);
     }
 
-pub refused_from : (before now after : Option (List ℕ)) (pending : List ℕ) (count : ℕ) (world : World) (held written more : Option (List ℕ))
+pub refused_from : Law → (before now after : Option (List ℕ)) (pending : List ℕ) (count : ℕ) (world : World) (held written more : Option (List ℕ))
     → count ≤ 1000000 → Progress before now pending count world held written → Refuses now pending count written more → IsRefusal before after held more
-refused_from before now after pending count world held written more le p r =
+refused_from law before now after pending count world held written more le p r =
     record {
       front = spells p.steps;
       steps = p.steps;
@@ -152,11 +161,12 @@ refused_from before now after pending count world held written more le p r =
       input = from_now before now (ended p.steps ++ pending) _ _ p.input r.input (λ left q.
           (q.0, q.1, ap lines_of (append_assoc (ended p.steps) pending left) ∙ lines_of-ended p.steps (pending ++ left) p.kept ∙ ap (λ (ls : List (List ℕ)). spells p.steps ++ ls) q.2, limit_of q.0 count (length p.steps) p.counted q.3));
       output = Appends-then held written more (text beginning p.steps) (refusal (length p.steps + 1)) p.output (subst (λ (n : ℕ). Appends written more (refusal (n + 1))) (sym p.counted) r.output);
+      accounted = law p.steps;
     }
 
-pub broken_from : (before now after : Option (List ℕ)) (pending rest : List ℕ) (count : ℕ) (world : World) (held written more : Option (List ℕ))
+pub broken_from : Law → (before now after : Option (List ℕ)) (pending rest : List ℕ) (count : ℕ) (world : World) (held written more : Option (List ℕ))
     → Progress before now pending count world held written → Moves now after pending rest → NoLf rest → Keeps written more → IsBroken before after held more
-broken_from before now after pending rest count world held written more p m no_lf k =
+broken_from law before now after pending rest count world held written more p m no_lf k =
     record {
       steps = p.steps;
       ranges = in_range p.steps p.kept;
@@ -164,11 +174,12 @@ broken_from before now after pending rest count world held written more p m no_l
       input = subst (Consumes before after) (append_assoc (ended p.steps) pending m.read ∙ ap (λ (b : List ℕ). ended p.steps ++ b) (sym m.joined)) (Consumes-then before now after (ended p.steps ++ pending) m.read p.input m.input);
       no_lf = no_lf;
       output = Appends-kept held written more (text beginning p.steps) p.output k;
+      accounted = law p.steps;
     }
 
-pub cut_from : (before now : Option (List ℕ)) (pending : List ℕ) (count : ℕ) (world : World) (held written more : Option (List ℕ))
+pub cut_from : Law → (before now : Option (List ℕ)) (pending : List ℕ) (count : ℕ) (world : World) (held written more : Option (List ℕ))
     → Progress before now pending count world held written → Cuts now pending count world written more → IsCut before held more
-cut_from before now pending count world held written more p t =
+cut_from law before now pending count world held written more p t =
     record {
       front = spells p.steps;
       steps = p.steps;
@@ -177,12 +188,22 @@ cut_from before now pending count world held written more p t =
       whose = from_now before now (ended p.steps ++ pending) _ _ p.input t.whose (λ left q.
           (lines_of (pending ++ left), ap lines_of (append_assoc (ended p.steps) pending left) ∙ lines_of-ended p.steps (pending ++ left) p.kept, at_step t.piece (lines_of (pending ++ left)) count (length p.steps) world (world_of beginning p.steps) p.counted p.reached q));
       output = then_front held written more (text beginning p.steps) t.piece p.output t.output;
+      accounted = law p.steps;
     }
 
-pub ends_so : (end : End) (before now after : Option (List ℕ)) (pending rest : List ℕ) (count : ℕ) (old new : World) (held written more : Option (List ℕ))
+pub ends_so : Law → (end : End) (before now after : Option (List ℕ)) (pending rest : List ℕ) (count : ℕ) (old new : World) (held written more : Option (List ℕ))
     → count ≤ 1000000 → Progress before now pending count old held written → Turns (Some end) now after pending rest count old new written more → Replays end before after held more
-ends_so ends.Done before now after pending rest count old new held written more le p t = done_from before now after pending count old held written more p t
-ends_so ends.Refused before now after pending rest count old new held written more le p t = refused_from before now after pending count old held written more le p t
-ends_so ends.ReadFault before now after pending rest count old new held written more le p t = broken_from before now after pending rest count old held written more p t.0 t.1 t.2
-ends_so ends.WriteFault before now after pending rest count old new held written more le p t = cut_from before now pending count old held written more p t
-ends_so ends.NoMemory before now after pending rest count old new held written more le p t = cut_from before now pending count old held written more p t
+ends_so law ends.Done before now after pending rest count old new held written more le p t = done_from law before now after pending count old held written more p t
+ends_so law ends.Refused before now after pending rest count old new held written more le p t = refused_from law before now after pending count old held written more le p t
+ends_so law ends.ReadFault before now after pending rest count old new held written more le p t = broken_from law before now after pending rest count old held written more p t.0 t.1 t.2
+ends_so law ends.WriteFault before now after pending rest count old new held written more le p t = cut_from law before now pending count old held written more p t
+ends_so law ends.NoMemory before now after pending rest count old new held written more le p t = cut_from law before now pending count old held written more p t
+
+-- ---- the law, from that of legal histories
+
+history-legal : (w : World) (steps : List Step) → IsLegal step w (history step 0 w steps)
+history-legal w [] = tt
+history-legal w (s ∷ steps) = (refl, history-legal (step w s).0 steps)
+
+pub accounts : ((shard next : ℕ) (entries : List (Entry Step Reply)) → IsLegal step (start shard next) entries → IsAccounted (start shard next) entries) → Law
+accounts law steps = law 0 1 (history step 0 beginning steps) (history-legal beginning steps)

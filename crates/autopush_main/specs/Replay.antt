@@ -3,6 +3,8 @@ use Rattle.std.specs.Prelude.{◌≡◌, ℕ, ◌+◌, ◌<◌, ◌≤◌, ◌�
 use Rattle.std.specs.List.{AllByRecursion}
 use Rattle.std.specs.Io.KnownBytes.{Consumes, Appends}
 use Rattle.push_model.specs.Worlds.{World, start, step}
+use Rattle.push_model.specs.Histories.{history}
+use Rattle.push_model.specs.Accounting.{IsAccounted}
 use Rattle.push_model.specs.declared.step.Step.{Step}
 use Rattle.schedule_text.specs.Spelling.{spell, InRange}
 use Rattle.schedule_text.specs.Replies.{reply_line}
@@ -49,6 +51,10 @@ abbrev pub world_of : World → List Step → World
 world_of w [] = w
 world_of w (s ∷ steps) = world_of (step w s).0 steps
 
+-- in the history of these steps each message is accounted for
+abbrev pub AreAccounted : List Step → Type 0
+AreAccounted steps = IsAccounted beginning (history step 0 beginning steps)
+
 abbrev pub refusal : ℕ → List ℕ
 refusal n = codes "refused line " ++ (decimal n ++ 10 ∷ [])
 
@@ -66,6 +72,7 @@ pub record IsDone (before after held now : Option (List ℕ)) : Type 0 where
   pub lines : AreLines (lines_of read) steps
   pub count : length steps ≤ limit
   pub output : Appends held now (text beginning steps)
+  pub accounted : AreAccounted steps
 
 -- the lines before the first refused one were answered, and it was named
 pub record IsRefusal (before after held now : Option (List ℕ)) : Type 0 where
@@ -75,6 +82,7 @@ pub record IsRefusal (before after held now : Option (List ℕ)) : Type 0 where
   pub count : length steps ≤ limit
   pub input : IfSome before (λ all. (line : List ℕ) × (more : List (List ℕ)) × (lines_of all ≡ front ++ line ∷ more) × (IsRefused line ⊎ (length steps ≡ limit)))
   pub output : Appends held now (text beginning steps ++ refusal (length steps + 1))
+  pub accounted : AreAccounted steps
 
 -- the lines of the steps, each with its LF
 abbrev pub ended : List Step → List ℕ
@@ -89,3 +97,4 @@ pub record IsBroken (before after held now : Option (List ℕ)) : Type 0 where
   pub input : Consumes before after (ended steps ++ partial)
   pub no_lf : NoLf partial
   pub output : Appends held now (text beginning steps)
+  pub accounted : AreAccounted steps

@@ -9,7 +9,7 @@ use Rattle.schedule_text.specs.Spelling.{spell, InRange}
 use Rattle.schedule_text.specs.Replies.{reply_line}
 use Rattle.autopush_main.specs.Known.{AppendsFront, HasCause}
 use Rattle.autopush_main.specs.Lines.{NoLf, Moves}
-use Rattle.autopush_main.specs.Replay.{beginning, IsLine, AreLines, IsRefused, lines_of, text, world_of, refusal, limit, IsDone, IsRefusal, IsBroken}
+use Rattle.autopush_main.specs.Replay.{beginning, IsLine, AreLines, IsRefused, lines_of, text, world_of, AreAccounted, refusal, limit, IsDone, IsRefusal, IsBroken}
 use Rattle.autopush_main.specs.declared.turn.End.{End}
 use Rattle.autopush_main.specs.declared.turn.End.TheVariants as ends
 
@@ -163,6 +163,7 @@ pub record IsCut (before held now : Option (List ℕ)) : Type 0 where
   pub piece : List ℕ
   pub whose : IfSome before (λ all. (more : List (List ℕ)) × (lines_of all ≡ front ++ more) × PieceOfFirst piece more (length steps) (world_of beginning steps))
   pub output : AppendsFront held now (text beginning steps ++ piece)
+  pub accounted : AreAccounted steps
 
 -- what a replay read and wrote, by how it ended
 abbrev pub Replays : End → Option (List ℕ) → Option (List ℕ) → Option (List ℕ) → Option (List ℕ) → Type 0

@@ -4,6 +4,7 @@ ghost use Rattle.autopush_main.specs.Turns.{Replays, BlamesSourceEnd, BlamesSink
 use crate::pending::Pending;
 use crate::shard::Shard;
 use crate::turn::{End, LINES, turn};
+use push_model::laws::legal_histories_are_accounted;
 use push_outside::{Sink, Source};
 use std::alloc::Global;
 
@@ -13,6 +14,7 @@ pub fn run<I: Source, K: Sink>(alloc: Global, input: &mut I, output: &mut K) -> 
     ensures source { BlamesSourceEnd result (I.faults input.old) (I.faults input.new) (I.lulls input.new) }
     ensures sink { BlamesSink result (K.faults output.old) (K.faults output.new) (K.lulls output.new) }
 {
+    legal_histories_are_accounted();
     let mut shard = Shard::start(alloc, 0);
     let mut pending = Pending::new(alloc);
     for count in 0..=LINES {

@@ -1,1 +1,17 @@
 pub mod KeyedLemmas
+pub mod Members
+pub mod Marks
+pub mod Reasons
+pub mod Leaves
+pub mod Growth
+pub mod Events
+pub mod CellFacts
+pub mod InStep
+pub mod Entries
+pub mod Lift
+pub mod Changes
+pub mod JoinKept
+pub mod FlightKept
+pub mod AckKept
+pub mod BeginKept
+pub mod Accounted

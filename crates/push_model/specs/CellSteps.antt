@@ -7,7 +7,6 @@ use Rattle.push_model.specs.declared.ids.MsgId.{MsgId}
 use Rattle.push_model.specs.declared.ids.Op.{Op}
 use Rattle.push_model.specs.declared.parts.Claim.{Claim}
 use Rattle.push_model.specs.declared.parts.Channel.{Channel}
-use Rattle.push_model.specs.declared.parts.Row.{Row}
 use Rattle.push_model.specs.declared.parts.FlightRow.{FlightRow}
 use Rattle.push_model.specs.declared.step.Actor.TheVariants.{Flight as OfFlight, Saver as OfSaver}
 use Rattle.push_model.specs.declared.step.Step.{Step}

@@ -1,6 +1,5 @@
 -- A user's cell: the user, if there is one, and the user's claims, sessions, savers and flights.
-use Rattle.std.specs.Prelude.{ℕ, ◌==◌, ◌&&◌, Bool, true, false, List, [], ◌∷◌, ◌++◌, Option, Some, None, find, map, if◌then◌else◌}
-use Rattle.std.specs.List.{list_any}
+use Rattle.std.specs.Prelude.{ℕ, ◌==◌, ◌&&◌, Bool, false, List, [], Option, Some, None, map, if◌then◌else◌}
 use Rattle.push_model.specs.declared.ids.Uaid.{Uaid}
 use Rattle.push_model.specs.declared.ids.ChannelId.{ChannelId}
 use Rattle.push_model.specs.declared.ids.Token.{Token}

@@ -1,7 +1,6 @@
 -- Which stored rows the routed session wasn't sent, and who is about to tell it of them.
-use Rattle.std.specs.Prelude.{ℕ, ◌==◌, ◌&&◌, ◌||◌, not, Bool, true, false, List, Option, Some, None, find, length, count_by, sum_by, is_some, ◌+◌}
+use Rattle.std.specs.Prelude.{ℕ, ◌==◌, ◌&&◌, ◌||◌, not, Bool, true, false, Option, Some, None, find, length, count_by, sum_by, is_some, ◌+◌}
 use Rattle.std.specs.List.{list_any}
-use Rattle.push_model.specs.declared.ids.MsgId.{MsgId}
 use Rattle.push_model.specs.declared.parts.Row.{Row}
 use Rattle.push_model.specs.declared.parts.FlightRow.{FlightRow}
 use Rattle.push_model.specs.declared.step.Fetch.{Fetch}
@@ -10,7 +9,7 @@ use Rattle.push_model.specs.declared.step.Stage.{Stage}
 use Rattle.push_model.specs.declared.step.Stage.TheVariants.{Direct, Told, Store, Reread, Nudge, ToldNudge, Clear, Saving, Idle as AtIdle, Topic as AtTopic, Plain as AtPlain, Displaced}
 use Rattle.push_model.specs.Names.{is_same_id}
 use Rattle.push_model.specs.Sessions.{Session, has_sent, held}
-use Rattle.push_model.specs.Cells.{Cell, User, Saver, rows_of, is_routed_to, is_row}
+use Rattle.push_model.specs.Cells.{Cell, Saver, rows_of, is_routed_to}
 
 -- the session that is attached and that the route row names
 abbrev pub routed_session : Cell → Option Session

@@ -13,3 +13,6 @@ pub mod Kinds
 pub mod Tallies
 pub mod Worlds
 pub mod Histories
+pub mod Pools
+pub mod Images
+pub mod Accounting

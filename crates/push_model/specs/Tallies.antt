@@ -1,5 +1,5 @@
 -- How a reply is added to the tally.
-use Rattle.std.specs.Prelude.{ℕ, ◌+◌, ◌-◌, ◌^◌, ◌==◌, min, Bool, Option, Some, None, length, if◌then◌else◌}
+use Rattle.std.specs.Prelude.{ℕ, ◌+◌, ◌-◌, ◌^◌, ◌==◌, min, Bool, Some, None, length, if◌then◌else◌}
 use Rattle.push_model.specs.declared.counts.Tally.{Tally}
 use Rattle.push_model.specs.declared.reply.Reply.{Reply}
 use Rattle.push_model.specs.declared.reply.Reply.TheVariants.{Begun, End, Page, Acked}

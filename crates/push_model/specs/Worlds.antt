@@ -1,5 +1,5 @@
 -- The world of a shard, and its steps.
-use Rattle.std.specs.Prelude.{ℕ, ◌+◌, ◌^◌, ◌==◌, ◌&&◌, Bool, true, false, List, [], ◌∷◌, Option, Some, None, is_some, length, sum_by, count_by, find, if◌then◌else◌}
+use Rattle.std.specs.Prelude.{ℕ, ◌+◌, ◌^◌, ◌==◌, ◌&&◌, Bool, List, [], Option, Some, None, is_some, length, sum_by, count_by, find, if◌then◌else◌}
 use Rattle.std.specs.List.{list_any}
 use Rattle.std.specs.Ordering.{nat_cmp}
 use Rattle.std.specs.BTreeMap.{is_at, insert_entry}
@@ -17,7 +17,6 @@ use Rattle.push_model.specs.declared.step.Step.{Step}
 use Rattle.push_model.specs.declared.step.Step.TheVariants.{Create, Attach, Register, Begin, Direct, Heard, TakeDirect, Ack, Report}
 use Rattle.push_model.specs.declared.reply.Reply.{Reply}
 use Rattle.push_model.specs.declared.reply.Reply.TheVariants.{NodeDown, TokenTaken, NoToken, IdsSpent, NoFlight, Stage as StageIs, Counts as CountsAre}
-use Rattle.push_model.specs.SessionKey.{SessionKey}
 use Rattle.push_model.specs.AskValue.{AskValue}
 use Rattle.push_model.specs.MessageValue.{MessageValue}
 use Rattle.push_model.specs.Cells.{Cell, empty_cell, is_token, is_flight, channels_of}

@@ -7,6 +7,7 @@ mod counts;
 mod entry;
 mod expiry;
 mod ids;
+pub mod laws;
 mod lists;
 mod message;
 mod parts;

@@ -1,7 +1,6 @@
 pub mod Numerals
 pub mod HexDigits
 pub mod Zeros
-pub mod Payloads
 pub mod Pages
 pub mod Fields
 pub mod ValueLaws

@@ -32,8 +32,7 @@ impl Model for HexText {
     ghost invariant = { λ t. t.start ≤ 32 };
 }
 
-/// The lower-case digit of a number below 16.
-pub fn glyph(digit: u8) -> u8
+fn glyph(digit: u8) -> u8
     requires { digit < 16 }
     ensures { result ≡ digit_glyph false digit }
 {
@@ -45,6 +44,7 @@ pub fn glyph(digit: u8) -> u8
 }
 
 impl HexText {
+    /// The digits of that number.
     pub fn of(number: u128) -> HexText
         ensures { result ≡ digits 16 false number }
     {
@@ -61,6 +61,7 @@ impl HexText {
         HexText { digits, start }
     }
 
+    /// From 1 to 32 digits.
     pub fn bytes(&self) -> &[u8]
         ensures { result.now ≡ self.now }
     {
@@ -104,6 +105,7 @@ impl Model for TokenText {
 }
 
 impl TokenText {
+    /// The digits of that token.
     pub fn of(token: &Token) -> TokenText
         ensures { result ≡ token_word token.now }
     {
@@ -113,6 +115,7 @@ impl TokenText {
         TokenText { digits }
     }
 
+    /// From 1 to 48 digits.
     pub fn bytes(&self) -> &[u8]
         ensures { result.now ≡ self.now }
     {

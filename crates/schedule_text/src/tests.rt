@@ -1,7 +1,7 @@
 use super::*;
 use push_model::{
-    AckedFrom, Ask, Blob, ChannelId, Coding, Counts, Message, MsgId, NodeId, Pages, Reply, Shared,
-    Stage, Terms, Text, Token, Uaid, Urgency,
+    AckedFrom, ChannelId, Counts, Message, MsgId, NodeId, Pages, Reply, Shared, Stage, Step, Text,
+    Token, Uaid,
 };
 use std::alloc::Global;
 use std::test::Fail;
@@ -62,22 +62,10 @@ fn reads_lines_and_prints_them_again(rt: HostRuntime) -> Result<(), Fail> {
     Ok(())
 }
 
-fn message(alloc: Global, number: u64, payload: &[u8]) -> Result<Shared, Fail> {
-    let coding = if payload.is_empty() {
-        Coding::Bare
-    } else {
-        Coding::Aesgcm
-    };
-    let ask = Ask {
-        terms: Terms {
-            ttl: 60,
-            topic: None,
-            urgency: Urgency::Normal,
-            coding,
-        },
-        encryption: Blob::copy(alloc, b"")?,
-        crypto_key: Blob::copy(alloc, b"")?,
-        payload: Blob::copy(alloc, payload)?,
+/// A message of that number, whose ask is that of the begin.
+fn message(alloc: Global, number: u64, begin: &str) -> Result<Shared, LineFault> {
+    let Step::Begin(_, _, ask) = read_line(alloc, begin.as_bytes())? else {
+        return Err(LineFault::Outside);
     };
     let message = Message {
         id: MsgId { shard: 0, number },
@@ -86,7 +74,7 @@ fn message(alloc: Global, number: u64, payload: &[u8]) -> Result<Shared, Fail> {
         ask,
         accepted: 0,
     };
-    Ok(Shared::new(alloc, message)?)
+    Shared::new(alloc, message).map_err(|_| LineFault::NoMemory)
 }
 
 #[test]
@@ -100,8 +88,8 @@ fn prints_replies(rt: HostRuntime) -> Result<(), Fail> {
     let mut bytes = [0; 24];
     bytes[22] = 10;
     let mut pages = Pages::new(alloc);
-    pages.push(message(alloc, 12, &[0, 255])?)?;
-    pages.push(message(alloc, 13, b"")?)?;
+    pages.push(message(alloc, 12, "begin 3 7 a0b1 60 . normal 00ff")?)?;
+    pages.push(message(alloc, 13, "begin 3 8 a0b1 60 . normal .")?)?;
     let counts = Counts {
         users: 1,
         stored: 2,

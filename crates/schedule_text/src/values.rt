@@ -5,14 +5,14 @@ ghost use Rattle.hex.specs.Hex.{encode_lower};
 ghost use Rattle.schedule_text.specs.Reading.{Gives, padded, numeral_value, decimal_value, token_value, topic_value, urgency_value, payload_value};
 
 use crate::fault::LineFault;
-use crate::hex_text::{HexText, TokenText, glyph};
+use crate::hex_text::{HexText, TokenText};
 use hex::FromHexError;
 use itoa::Buffer;
 use push_model::{Blob, Token, Topic, Urgency};
 use std::alloc::Global;
 use std::str;
 
-/// The number of lower-case hexadecimal digits.
+/// The number of 1 to 32 hexadecimal digits.
 pub fn hex_value(word: &[u8]) -> Option<u128>
     ensures { result ≡ numeral_value 16 (2 ^ 128) word.now }
 {
@@ -29,6 +29,7 @@ pub fn hex_value(word: &[u8]) -> Option<u128>
     }
 }
 
+/// The decimal number up to `high`.
 fn numeral_value(high: u64, word: &[u8]) -> Option<u64>
     ensures value { result ≡ numeral_value 10 (high + 1) word.now }
     ensures within { IfSome result (λ n. n ≤ high) }
@@ -102,6 +103,7 @@ pub fn topic_value(word: &[u8]) -> Result<Option<Topic>, LineFault>
     }
 }
 
+/// One of the four urgencies.
 #[tactic(auto, unfolding(crate::specs::Reading::urgency_value))]
 pub fn urgency_value(word: &[u8]) -> Option<Urgency>
     ensures { result ≡ urgency_value word.now }
@@ -134,7 +136,7 @@ fn is_spelled(bytes: &[u8], word: &[u8]) -> bool
     &*spelled == word
 }
 
-/// The bytes of at most 8,192 digits, or none for a dot. The bytes alone take memory.
+/// The bytes of 2 to 8,192 digits, or none for a dot. Only these bytes take memory.
 #[tactic(auto, unfolding(crate::specs::Reading::payload_value))]
 pub fn payload_value(alloc: Global, word: &[u8]) -> Result<Blob, LineFault>
     ensures value { Gives (λ p. p) result (payload_value word.now) }

@@ -104,6 +104,7 @@ impl<'a> Words<'a> {
         NodeId::new(number as u8).ok_or(LineFault::Outside)
     }
 
+    /// A token.
     #[tactic(auto, unfolding(crate::specs::Reading::token_at))]
     pub fn token(&mut self) -> Result<Token, LineFault>
         ensures { Takes (λ t. t) result (token_at self.old) self.new }
@@ -133,6 +134,7 @@ impl<'a> Words<'a> {
         values::payload_value(alloc, self.word()?)
     }
 
+    /// A user, a node and a moment.
     #[tactic(auto, unfolding(crate::specs::Reading::session_at))]
     pub fn session(&mut self) -> Result<SessionId, LineFault>
         ensures { Takes (λ s. s) result (session_at self.old) self.new }
@@ -143,6 +145,7 @@ impl<'a> Words<'a> {
         Ok(SessionId { uaid, node, at })
     }
 
+    /// The number of a pass, and that of a flight there.
     #[tactic(auto, unfolding(crate::specs::Reading::op_at))]
     pub fn op(&mut self) -> Result<Op, LineFault>
         ensures { Takes (λ o. o) result (op_at self.old) self.new }
@@ -152,6 +155,7 @@ impl<'a> Words<'a> {
         Ok(Op { pass, k })
     }
 
+    /// A channel.
     #[tactic(auto, unfolding(crate::specs::Reading::channel_at))]
     pub fn channel(&mut self) -> Result<ChannelId, LineFault>
         ensures { Takes (λ h. h) result (channel_at self.old) self.new }
@@ -183,6 +187,7 @@ impl<'a> Words<'a> {
         }
     }
 
+    /// The ttl, the topic, the urgency and the payload of an ask. Only the payload takes memory.
     #[tactic(auto, unfolding(crate::specs::Reading::ask_at))]
     pub fn ask(&mut self, alloc: Global) -> Result<Ask, LineFault>
         ensures { Takes (λ a. a) result (ask_at self.old) self.new }

@@ -1,5 +1,5 @@
 //! A user: the route row, the channels and the stored rows.
-ghost use Rattle.std.specs.Prelude.{◌≡◌, ◌&&◌, ◌++◌, ◌∷◌, [], position, length, map, OnOk, OnErr, is_some};
+ghost use Rattle.std.specs.Prelude.{◌≡◌, ◌&&◌, ◌++◌, ◌∷◌, [], position, map, OnOk, OnErr};
 ghost use Rattle.std.specs.List.{list_any};
 ghost use Rattle.push_model.specs.Keyed.{without_first, IsPlace};
 ghost use Rattle.push_model.specs.Cells.{is_channel, is_token, is_row, channels_of, rows_of, place_of, routed_place, is_routed_to, unmarked_row, unmarked_for};

@@ -1,11 +1,11 @@
 use Rattle.std.proofs.Common.{arith, rules}
-use Rattle.autopush_main.proofs.Progress.{goes_on, ends_so}
+use Rattle.autopush_main.proofs.Progress.{goes_on, ends_so, accounts}
 use Rattle.autopush_main.proofs.run.run.Goals as goal
 
 pub returns-in-Some-clause-replays : goal.returns-in-Some-clause-replays
 returns-in-Some-clause-replays g c =
     let i = c.loop-count.invariant in
-    ends_so c.in-Some.end _ _ _ _ _ _ _ _ _ _ _ i.early i.progress c.in-Some.ensures.turns
+    ends_so (accounts c.legal_histories_are_accounted.ensures) c.in-Some.end _ _ _ _ _ _ _ _ _ _ _ i.early i.progress c.in-Some.ensures.turns
 
 pub loop-count-preserved : goal.loop-count-preserved
 loop-count-preserved g c =

@@ -1,0 +1,11 @@
+//! Tests across the crates of the service: whole schedules, their replies and their exit statuses.
+#![tactic(auto)]
+
+#[cfg(test)]
+mod calls;
+#[cfg(test)]
+mod faults;
+#[cfg(test)]
+mod long;
+#[cfg(test)]
+mod replays;
