@@ -5,3 +5,4 @@ mod TurnLaws
 mod Progress
 mod Values
 mod Counts
+mod Making

@@ -98,10 +98,22 @@ impl Shard {
             Step::Attach(s) => self.attach(alloc, s),
             Step::Register(s, chid, token) => self.register(alloc, s, *chid, token),
             Step::Create(s)
+            | Step::TakeCheck(s)
+            | Step::FetchTopic(s)
+            | Step::FetchPlain(s)
             | Step::TakeDirect(s)
             | Step::Ack(s, _, _)
-            | Step::Heard(Actor::Saver(s)) => self.on_cell(alloc, s.uaid, asked),
-            Step::Direct(op) | Step::Heard(Actor::Flight(op)) => self.on_flight(alloc, *op, asked),
+            | Step::Reread(Actor::Saver(s))
+            | Step::Nudge(Actor::Saver(s))
+            | Step::Heard(Actor::Saver(s))
+            | Step::Lost(Actor::Saver(s)) => self.on_cell(alloc, s.uaid, asked),
+            Step::Direct(op)
+            | Step::Store(op)
+            | Step::GiveUp(op)
+            | Step::Reread(Actor::Flight(op))
+            | Step::Nudge(Actor::Flight(op))
+            | Step::Heard(Actor::Flight(op))
+            | Step::Lost(Actor::Flight(op)) => self.on_flight(alloc, *op, asked),
             Step::Report => Ok(Reply::Counts(self.counts())),
             Step::Begin(_, _, _) => unreachable!(),
         }
@@ -123,10 +135,10 @@ impl Shard {
                 if !cell.has_user() {
                     return Ok(reply);
                 }
-                match self.cells.insert(uaid.0, cell) {
-                    Ok(_) => Ok(reply),
-                    Err(_) => Err(NoMemory),
+                if self.cells.insert(uaid.0, cell).is_err() {
+                    return Err(NoMemory);
                 }
+                Ok(reply)
             }
         }
     }

@@ -9,3 +9,5 @@ mod faults;
 mod long;
 #[cfg(test)]
 mod replays;
+#[cfg(test)]
+mod stored;

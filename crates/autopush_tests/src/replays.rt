@@ -6,12 +6,10 @@ use std::alloc::{AllocError, Global};
 use std::process::Abort;
 use std::test::Fail;
 
-fn words_of(alloc: Global, words: &[&str]) -> Result<Vec<String>, AllocError> {
-    let mut all = Vec::new(alloc);
-    for word in words {
-        all.push(String::from_str(alloc, word)?)?;
-    }
-    Ok(all)
+fn replay_words(alloc: Global) -> Result<Vec<String>, AllocError> {
+    let mut words = Vec::new(alloc);
+    words.push(String::from_str(alloc, "replay")?)?;
+    Ok(words)
 }
 
 // Replays the schedule, and compares the status and what was written.
@@ -22,7 +20,7 @@ fn replay(
     status: u8,
     written: &str,
 ) -> Result<(), Fail> {
-    let words = words_of(alloc, &["replay"])?;
+    let words = replay_words(alloc)?;
     let mut input = SureSource::new(Vec::from_slice(alloc, schedule.as_bytes())?);
     let mut output = SureSink::new(alloc);
     let ended = autopush_replay(alloc, &words, &mut input, &mut output);
@@ -222,15 +220,18 @@ fn greatest_values(rt: HostRuntime) -> Result<(), Fail> {
 #[test]
 fn other_words(rt: HostRuntime) -> Result<(), Fail> {
     let alloc = rt.alloc();
-    for words in [
-        [].as_slice(),
-        ["replay", "x"].as_slice(),
-        ["Replay"].as_slice(),
-        ["gen", "7", "10"].as_slice(),
-        ["serve", "1", "1", "9001", "9101"].as_slice(),
-        ["--help"].as_slice(),
+    for line in [
+        "",
+        "replay x",
+        "Replay",
+        "gen 7 10",
+        "serve 1 1 9001 9101",
+        "--help",
     ] {
-        let words = words_of(alloc, words)?;
+        let mut words = Vec::new(alloc);
+        for word in line.split_whitespace() {
+            words.push(String::from_str(alloc, word)?)?;
+        }
         let mut input = SureSource::new(Vec::from_slice(alloc, b"report\n")?);
         let mut output = SureSink::new(alloc);
         assert_eq!(rt; autopush_replay(alloc, &words, &mut input, &mut output), 2);

@@ -3,7 +3,7 @@ use Rattle.std.proofs.Common.{◌≡◌, ℕ, List, [], ◌∷◌, refl, sym, su
 use Rattle.push_model.specs.declared.entry.Entry.{Entry}
 use Rattle.push_model.specs.declared.step.Actor.TheVariants.{Flight as OfFlight, Saver as OfSaver}
 use Rattle.push_model.specs.declared.step.Step.{Step}
-use Rattle.push_model.specs.declared.step.Step.TheVariants.{Create, Attach, Register, Begin, Direct, Heard, TakeDirect, Ack as AckStep, Report}
+use Rattle.push_model.specs.declared.step.Step.TheVariants.{Create, Attach, Register, Begin, Direct, Store, GiveUp, Reread, Nudge, Heard, Lost, TakeCheck, FetchTopic, FetchPlain, TakeDirect, Ack as AckStep, Report}
 use Rattle.push_model.specs.declared.reply.Reply.{Reply}
 use Rattle.push_model.specs.Worlds.{World, start, made, step}
 use Rattle.push_model.specs.Histories.{IsLegal}
@@ -13,8 +13,13 @@ use Rattle.push_model.specs.Accounting.{IsAccounted, IsAccountedFrom}
 use Rattle.push_model.proofs.Members.{true_not_false}
 use Rattle.push_model.proofs.InStep.{InStep, Stepped, StepKept, tallied, finish, in_step-exact}
 use Rattle.push_model.proofs.Lift.{same_stepped}
-use Rattle.push_model.proofs.JoinKept.{create_kept, attach_kept, register_kept, saver_heard_kept}
-use Rattle.push_model.proofs.FlightKept.{direct_kept, heard_kept}
+use Rattle.push_model.proofs.JoinKept.{create_kept, attach_kept, register_kept}
+use Rattle.push_model.proofs.DirectKept.{direct_kept}
+use Rattle.push_model.proofs.AdvanceKept.{heard_kept, lost_kept, give_up_kept, reread_kept}
+use Rattle.push_model.proofs.SaverKept.{saver_heard_kept, saver_lost_kept, saver_reread_kept, saver_nudge_kept}
+use Rattle.push_model.proofs.NudgeKept.{nudge_kept, take_check_kept}
+use Rattle.push_model.proofs.FetchKept.{fetch_topic_kept, fetch_plain_kept}
+use Rattle.push_model.proofs.StoreKept.{store_kept}
 use Rattle.push_model.proofs.AckKept.{take_direct_kept, ack_kept}
 use Rattle.push_model.proofs.BeginKept.{begin_kept}
 
@@ -25,8 +30,19 @@ made_kept p w (Attach s) h = attach_kept p w s h
 made_kept p w (Register s k t) h = register_kept p w s k t h
 made_kept p w (Begin o t a) h = begin_kept p w o t a h
 made_kept p w (Direct o) h = direct_kept p w o h
+made_kept p w (Store o) h = store_kept p w o h
+made_kept p w (GiveUp o) h = give_up_kept p w o h
+made_kept p w (Reread (OfFlight o)) h = reread_kept p w o h
+made_kept p w (Reread (OfSaver s)) h = saver_reread_kept p w s h
+made_kept p w (Nudge (OfFlight o)) h = nudge_kept p w o h
+made_kept p w (Nudge (OfSaver s)) h = saver_nudge_kept p w s h
 made_kept p w (Heard (OfFlight o)) h = heard_kept p w o h
 made_kept p w (Heard (OfSaver s)) h = saver_heard_kept p w s h
+made_kept p w (Lost (OfFlight o)) h = lost_kept p w o h
+made_kept p w (Lost (OfSaver s)) h = saver_lost_kept p w s h
+made_kept p w (TakeCheck s) h = take_check_kept p w s h
+made_kept p w (FetchTopic s) h = fetch_topic_kept p w s h
+made_kept p w (FetchPlain s) h = fetch_plain_kept p w s h
 made_kept p w (TakeDirect s) h = take_direct_kept p w s h
 made_kept p w (AckStep s k i) h = ack_kept p w s k i h
 made_kept p w Report h = same_stepped p w h

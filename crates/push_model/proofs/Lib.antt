@@ -11,7 +11,14 @@ pub mod Entries
 pub mod Lift
 pub mod Changes
 pub mod JoinKept
-pub mod FlightKept
+pub mod SaverKept
+pub mod DirectKept
+pub mod AdvanceKept
+pub mod NudgeKept
+pub mod FetchKept
+pub mod Replaced
+pub mod StoredRows
+pub mod StoreKept
 pub mod AckKept
 pub mod BeginKept
 pub mod Accounted

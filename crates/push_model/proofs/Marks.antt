@@ -5,7 +5,8 @@ use Rattle.std.specs.List.{list_all}
 use Rattle.std.proofs.lemmas.Bool.Decides.{nat_tests}
 use Rattle.push_model.specs.MessageValue.{MessageValue}
 use Rattle.push_model.specs.Keyed.{with_first}
-use Rattle.push_model.specs.Pools.{Taken, Pool, is_taken, taken_at, is_sent_to, is_same_topic, replaces, marked}
+use Rattle.push_model.specs.Messages.{is_same_topic}
+use Rattle.push_model.specs.Pools.{Taken, Pool, is_taken, taken_at, is_sent_to, replaces, marked}
 use Rattle.push_model.proofs.Members.{true_not_false}
 
 -- a mark leaves the message, and doesn't take back that it was kept
@@ -134,11 +135,13 @@ new_cons : (n : ℕ) (b : Bool) (x : Taken) (xs ys : List Taken) → is_taken n 
 new_cons n true x xs ys e l ih = absurd (grind (arith, nat_tests))
 new_cons n false x xs ys e l ih = rw e ih
 
-and_left : (a b : Bool) → (a && b) ≡ true → a ≡ true
+-- the first of both holds
+pub and_left : (a b : Bool) → (a && b) ≡ true → a ≡ true
 and_left true b h = refl
 and_left false b h = h
 
-and_right : (a b : Bool) → (a && b) ≡ true → b ≡ true
+-- the second of both holds
+pub and_right : (a b : Bool) → (a && b) ≡ true → b ≡ true
 and_right true b h = h
 and_right false b h = cc
 

@@ -1,5 +1,5 @@
 -- Which stored rows the routed session wasn't sent, and who is about to tell it of them.
-use Rattle.std.specs.Prelude.{ℕ, ◌==◌, ◌&&◌, ◌||◌, not, Bool, true, false, Option, Some, None, find, length, count_by, sum_by, is_some, ◌+◌}
+use Rattle.std.specs.Prelude.{ℕ, ◌==◌, ◌&&◌, ◌||◌, not, Bool, true, false, Option, Some, None, find, length, count_by, sum_by, ◌+◌}
 use Rattle.std.specs.List.{list_any}
 use Rattle.push_model.specs.declared.parts.Row.{Row}
 use Rattle.push_model.specs.declared.parts.FlightRow.{FlightRow}
@@ -8,17 +8,14 @@ use Rattle.push_model.specs.declared.step.Fetch.TheVariants.{Idle, Topic, Plain}
 use Rattle.push_model.specs.declared.step.Stage.{Stage}
 use Rattle.push_model.specs.declared.step.Stage.TheVariants.{Direct, Told, Store, Reread, Nudge, ToldNudge, Clear, Saving, Idle as AtIdle, Topic as AtTopic, Plain as AtPlain, Displaced}
 use Rattle.push_model.specs.Names.{is_same_id}
-use Rattle.push_model.specs.Sessions.{Session, has_sent, held}
-use Rattle.push_model.specs.Cells.{Cell, Saver, rows_of, is_routed_to}
+use Rattle.push_model.specs.Sessions.{Session, is_unsent, held}
+use Rattle.push_model.specs.Cells.{Cell, has_topic, Saver, rows_of, is_routed_to}
 
 -- the session that is attached and that the route row names
 abbrev pub routed_session : Cell → Option Session
 routed_session c = find (λ x. not x.displaced && is_routed_to x.node x.at c.user) c.sessions
 
 -- ---- who covers a row for that session
-
-abbrev pub has_topic : Row → Bool
-has_topic r = is_some r.message.ask.terms.topic
 
 -- a fetch that has not passed the row's kind
 abbrev pub fetch_covers : Fetch → Row → Bool
@@ -68,9 +65,6 @@ abbrev pub is_covered : Cell → Session → Row → Bool
 is_covered c x r = x.check || fetch_covers x.fetch r || list_any (flight_covers x r) c.flights || list_any (saver_covers x r) c.savers || r.orphan
 
 -- ---- the numbers of a cell
-
-abbrev pub is_unsent : Session → Row → Bool
-is_unsent x r = not (has_sent r.message.id x.sent)
 
 abbrev pub unsent_for : Option Session → Cell → ℕ
 unsent_for None c = 0

@@ -7,6 +7,7 @@ pub mod Messages
 pub mod Keyed
 pub mod Sessions
 pub mod Cells
+pub mod Advances
 pub mod CellSteps
 pub mod Covering
 pub mod Kinds

@@ -57,6 +57,7 @@ impl Tally {
             }
             Reply::Begun(_, Some(_)) => self.begun = self.begun.saturating_add(1),
             Reply::End(code) => self.count_end(of_flight, *code),
+            Reply::Stored => self.stored = self.stored.saturating_add(1),
             Reply::Page(messages) => {
                 self.shown = self.shown.saturating_add(messages.len() as u64);
             }

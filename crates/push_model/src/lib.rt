@@ -2,6 +2,7 @@
 //! the definitions that contracts cite.
 #![tactic(auto)]
 
+mod advance;
 mod ask;
 mod counts;
 mod entry;
@@ -16,6 +17,7 @@ mod step;
 mod text;
 mod topic;
 
+pub use advance::{Advance, Event};
 pub use ask::{Ask, Coding, Terms, Urgency};
 pub use counts::{Counts, Tally};
 pub use entry::{Entry, NoMemory};

@@ -44,10 +44,17 @@ pub enum Reply {
     /// A session of this user was found.
     Here(Uaid),
     NotHere,
+    /// The message is stored.
+    Stored,
+    /// The route row names that session.
+    Names(NodeId, u64),
     /// The actor ended: a flight by the HTTP status that its sender is answered, a saver by 200.
     End(u16),
     /// The actor goes on at that stage.
     Moved(Stage),
+    /// The session is to look at the stored rows.
+    Due,
+    NotDue,
     Page(Pages),
     Acked(AckedFrom),
     /// The session has no such message.

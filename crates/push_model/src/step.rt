@@ -1,6 +1,6 @@
 //! Steps of a shard.
 ghost use Rattle.std.specs.Prelude.{◌≡◌};
-ghost use Rattle.push_model.specs.Kinds.{takes_memory, is_of_flight, begins_unkept};
+ghost use Rattle.push_model.specs.Kinds.{is_flight_actor, takes_memory, is_of_flight, begins_unkept};
 
 use crate::ask::Ask;
 use crate::ids::{ChannelId, MsgId, NodeId, Op, SessionId, Token};
@@ -10,6 +10,18 @@ use crate::ids::{ChannelId, MsgId, NodeId, Op, SessionId, Token};
 pub enum Actor {
     Flight(Op),
     Saver(SessionId),
+}
+
+impl Actor {
+    /// Whether it is a flight.
+    pub fn is_flight(&self) -> bool
+        ensures { result ≡ is_flight_actor self.now }
+    {
+        match self {
+            Actor::Flight(_) => true,
+            Actor::Saver(_) => false,
+        }
+    }
 }
 
 /// How far an actor has come: a flight is at `Direct` to `Clear`, a saver at `Saving` or `Reread` to `Clear`. A session
@@ -57,8 +69,24 @@ pub enum Step {
     Begin(Op, Token, Ask),
     /// Gives a flight's message to the routed session.
     Direct(Op),
+    /// Stores a flight's message.
+    Store(Op),
+    /// Ends a flight that can't go on.
+    GiveUp(Op),
+    /// The actor reads the route row again.
+    Reread(Actor),
+    /// The actor tells the session that it found there.
+    Nudge(Actor),
     /// The actor hears what it was told.
     Heard(Actor),
+    /// The actor hears nothing, since its link was lost.
+    Lost(Actor),
+    /// The session asks whether it is to look at the stored rows.
+    TakeCheck(SessionId),
+    /// The session fetches the next rows with a topic.
+    FetchTopic(SessionId),
+    /// The session fetches the next rows without a topic.
+    FetchPlain(SessionId),
     /// The session takes its next messages.
     TakeDirect(SessionId),
     /// The session acknowledges a message.
@@ -78,8 +106,18 @@ impl Step {
             | Step::Register(_, _, _)
             | Step::Begin(_, _, _)
             | Step::Direct(_)
+            | Step::Store(_)
+            | Step::FetchTopic(_)
+            | Step::FetchPlain(_)
             | Step::TakeDirect(_) => true,
-            Step::Heard(_) | Step::Ack(_, _, _) | Step::Report => false,
+            Step::GiveUp(_)
+            | Step::Reread(_)
+            | Step::Nudge(_)
+            | Step::Heard(_)
+            | Step::Lost(_)
+            | Step::TakeCheck(_)
+            | Step::Ack(_, _, _)
+            | Step::Report => false,
         }
     }
 
@@ -88,12 +126,17 @@ impl Step {
         ensures { result ≡ is_of_flight self.now }
     {
         match self {
-            Step::Direct(_) | Step::Heard(Actor::Flight(_)) => true,
+            Step::Direct(_) | Step::Store(_) | Step::GiveUp(_) => true,
+            Step::Reread(actor) | Step::Nudge(actor) | Step::Heard(actor) | Step::Lost(actor) => {
+                actor.is_flight()
+            }
             Step::Create(_)
             | Step::Attach(_)
             | Step::Register(_, _, _)
             | Step::Begin(_, _, _)
-            | Step::Heard(Actor::Saver(_))
+            | Step::TakeCheck(_)
+            | Step::FetchTopic(_)
+            | Step::FetchPlain(_)
             | Step::TakeDirect(_)
             | Step::Ack(_, _, _)
             | Step::Report => false,
@@ -110,7 +153,15 @@ impl Step {
             | Step::Attach(_)
             | Step::Register(_, _, _)
             | Step::Direct(_)
+            | Step::Store(_)
+            | Step::GiveUp(_)
+            | Step::Reread(_)
+            | Step::Nudge(_)
             | Step::Heard(_)
+            | Step::Lost(_)
+            | Step::TakeCheck(_)
+            | Step::FetchTopic(_)
+            | Step::FetchPlain(_)
             | Step::TakeDirect(_)
             | Step::Ack(_, _, _)
             | Step::Report => false,

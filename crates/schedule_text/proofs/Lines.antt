@@ -7,12 +7,12 @@ use Rattle.std.proofs.lemmas.List.{append-nil, take-append-drop}
 use Rattle.std.proofs.lemmas.Slice.Eq.{bytes_eq-Decides}
 use Rattle.push_model.specs.declared.step.Actor.TheVariants.{Flight, Saver}
 use Rattle.push_model.specs.declared.step.Step.{Step}
-use Rattle.push_model.specs.declared.step.Step.TheVariants.{Create, Attach, Register, Begin, Direct, Heard, TakeDirect, Ack, Report}
+use Rattle.push_model.specs.declared.step.Step.TheVariants.{Create, Attach, Register, Begin, Direct, Store, GiveUp, Reread, Nudge, Heard, Lost, TakeCheck, FetchTopic, FetchPlain, TakeDirect, Ack, Report}
 use Rattle.schedule_text.specs.declared.fault.LineFault.{LineFault}
 use Rattle.schedule_text.specs.Opened.{is_opened}
 use Rattle.schedule_text.specs.Words.{word, hex, token_word}
 use Rattle.schedule_text.specs.Spelling.{session_words, op_words, actor_words, ask_words, IsSession, IsOp, IsActor, IsChannel, IsToken, IsId, IsLineAsk, spell, AreInRange, InRange}
-use Rattle.schedule_text.specs.Reading.{Gives, is_space, first_word, after_word, both, session_at, op_at, channel_at, token_at, id_at, actor_at, ask_at, nothing_at, at_end, line_of, create_at, attach_at, register_at, begin_at, direct_at, heard_at, take_at, ack_at, report_at, by_verb, verbs, whole_line_at, line_at}
+use Rattle.schedule_text.specs.Reading.{Gives, is_space, first_word, after_word, both, session_at, op_at, channel_at, token_at, id_at, actor_at, ask_at, nothing_at, at_end, line_of, create_at, attach_at, register_at, begin_at, direct_at, store_at, give_up_at, reread_at, nudge_at, heard_at, lost_at, check_at, topics_at, plains_at, take_at, ack_at, report_at, by_verb, verbs, whole_line_at, line_at}
 use Rattle.schedule_text.proofs.Fields.{bind_some, if_some, some_is, chosen, Field, both_fields}
 use Rattle.schedule_text.proofs.ValueLaws.{token_field}
 use Rattle.schedule_text.proofs.FieldLaws.{session_field, op_field, channel_field, id_field, actor_field, ask_field}
@@ -74,8 +74,32 @@ begin_line = record { field = both_fields op_field (both_fields token_field ask_
 direct_line : Line (codes "direct") op_at op_words IsOp Direct
 direct_line = record { field = op_field; spells = λ x. refl; ranges = λ x h. h }
 
+store_line : Line (codes "store") op_at op_words IsOp Store
+store_line = record { field = op_field; spells = λ x. refl; ranges = λ x h. h }
+
+give_up_line : Line (codes "giveup") op_at op_words IsOp GiveUp
+give_up_line = record { field = op_field; spells = λ x. refl; ranges = λ x h. h }
+
+reread_line : Line (codes "reread") actor_at actor_words IsActor Reread
+reread_line = record { field = actor_field; spells = λ x. refl; ranges = λ x h. h }
+
+nudge_line : Line (codes "nudge") actor_at actor_words IsActor Nudge
+nudge_line = record { field = actor_field; spells = λ x. refl; ranges = λ x h. h }
+
 heard_line : Line (codes "heard") actor_at actor_words IsActor Heard
 heard_line = record { field = actor_field; spells = λ x. refl; ranges = λ x h. h }
+
+lost_line : Line (codes "lost") actor_at actor_words IsActor Lost
+lost_line = record { field = actor_field; spells = λ x. refl; ranges = λ x h. h }
+
+check_line : Line (codes "check") session_at session_words IsSession TakeCheck
+check_line = record { field = session_field; spells = λ x. refl; ranges = λ x h. h }
+
+topics_line : Line (codes "topics") session_at session_words IsSession FetchTopic
+topics_line = record { field = session_field; spells = λ x. refl; ranges = λ x h. h }
+
+plains_line : Line (codes "plains") session_at session_words IsSession FetchPlain
+plains_line = record { field = session_field; spells = λ x. refl; ranges = λ x h. h }
 
 take_line : Line (codes "take") session_at session_words IsSession TakeDirect
 take_line = record { field = session_field; spells = λ x. refl; ranges = λ x h. h }
@@ -102,9 +126,9 @@ AllTake [] = Unit {0}
 AllTake (v ∷ vs) = ((line : List ℕ) (s : Step) → bytes_eq (first_word line) v.0 ≡ true → v.1 (after_word line) ≡ Some s → Is line s) × AllTake vs
 
 verbs_take : AllTake verbs
-unfolding create_at attach_at register_at begin_at direct_at heard_at take_at ack_at report_at
+unfolding create_at attach_at register_at begin_at direct_at store_at give_up_at reread_at nudge_at heard_at lost_at check_at topics_at plains_at take_at ack_at report_at
 verbs_take =
-    (takes create_line, (takes attach_line, (takes register_line, (takes begin_line, (takes direct_line, (takes heard_line, (takes take_line, (takes ack_line, (takes report_line, tt)))))))))
+    (takes create_line, (takes attach_line, (takes register_line, (takes begin_line, (takes direct_line, (takes store_line, (takes give_up_line, (takes reread_line, (takes nudge_line, (takes heard_line, (takes lost_line, (takes check_line, (takes topics_line, (takes plains_line, (takes take_line, (takes ack_line, (takes report_line, tt)))))))))))))))))
 
 verb_takes : (vs : List (List ℕ × (List ℕ → Option Step))) → AllTake vs → (line : List ℕ) (s : Step) → by_verb vs (first_word line) (after_word line) ≡ Some s → Is line s
 verb_takes [] all line s e = absurd cc
@@ -115,14 +139,25 @@ verb_takes (v ∷ vs) all line s e =
     ]
 
 whole_again : (s : Step) → AreInRange s → whole_line_at (spell s) ≡ Some s
-unfolding whole_line_at create_at attach_at register_at begin_at direct_at heard_at take_at ack_at report_at
+unfolding whole_line_at create_at attach_at register_at begin_at direct_at store_at give_up_at reread_at nudge_at heard_at lost_at check_at topics_at plains_at take_at ack_at report_at
 whole_again (Create s) h = again create_line s h
 whole_again (Attach s) h = again attach_line s h
 whole_again (Register s c t) h = again register_line (s, (c, t)) h
 whole_again (Begin o t a) h = again begin_line (o, (t, a)) h
 whole_again (Direct o) h = again direct_line o h
+whole_again (Store o) h = again store_line o h
+whole_again (GiveUp o) h = again give_up_line o h
+whole_again (Reread (Flight o)) h = again reread_line (Flight o) h
+whole_again (Reread (Saver x)) h = again reread_line (Saver x) h
+whole_again (Nudge (Flight o)) h = again nudge_line (Flight o) h
+whole_again (Nudge (Saver x)) h = again nudge_line (Saver x) h
 whole_again (Heard (Flight o)) h = again heard_line (Flight o) h
 whole_again (Heard (Saver x)) h = again heard_line (Saver x) h
+whole_again (Lost (Flight o)) h = again lost_line (Flight o) h
+whole_again (Lost (Saver x)) h = again lost_line (Saver x) h
+whole_again (TakeCheck s) h = again check_line s h
+whole_again (FetchTopic s) h = again topics_line s h
+whole_again (FetchPlain s) h = again plains_line s h
 whole_again (TakeDirect s) h = again take_line s h
 whole_again (Ack s c i) h = again ack_line (s, (c, i)) h
 whole_again Report h = again report_line tt tt

@@ -15,7 +15,7 @@ use Rattle.push_model.specs.declared.ids.Token.{Token}
 use Rattle.push_model.specs.declared.step.Actor.{Actor}
 use Rattle.push_model.specs.declared.step.Actor.TheVariants.{Flight, Saver}
 use Rattle.push_model.specs.declared.step.Step.{Step}
-use Rattle.push_model.specs.declared.step.Step.TheVariants.{Create, Attach, Register, Begin, Direct, Heard, TakeDirect, Ack, Report}
+use Rattle.push_model.specs.declared.step.Step.TheVariants.{Create, Attach, Register, Begin, Direct, Store, GiveUp, Reread, Nudge, Heard, Lost, TakeCheck, FetchTopic, FetchPlain, TakeDirect, Ack, Report}
 use Rattle.push_model.specs.AskValue.{AskValue}
 use Rattle.push_model.specs.SessionKey.{SessionKey}
 use Rattle.push_model.specs.Topics.{is_topic}
@@ -222,8 +222,32 @@ begin_at bytes = line_of (λ x. Begin x.0 x.1.0 x.1.1) (both op_at (both token_a
 unfoldable pub direct_at : List ℕ → Option Step
 direct_at bytes = line_of Direct op_at bytes
 
+unfoldable pub store_at : List ℕ → Option Step
+store_at bytes = line_of Store op_at bytes
+
+unfoldable pub give_up_at : List ℕ → Option Step
+give_up_at bytes = line_of GiveUp op_at bytes
+
+unfoldable pub reread_at : List ℕ → Option Step
+reread_at bytes = line_of Reread actor_at bytes
+
+unfoldable pub nudge_at : List ℕ → Option Step
+nudge_at bytes = line_of Nudge actor_at bytes
+
 unfoldable pub heard_at : List ℕ → Option Step
 heard_at bytes = line_of Heard actor_at bytes
+
+unfoldable pub lost_at : List ℕ → Option Step
+lost_at bytes = line_of Lost actor_at bytes
+
+unfoldable pub check_at : List ℕ → Option Step
+check_at bytes = line_of TakeCheck session_at bytes
+
+unfoldable pub topics_at : List ℕ → Option Step
+topics_at bytes = line_of FetchTopic session_at bytes
+
+unfoldable pub plains_at : List ℕ → Option Step
+plains_at bytes = line_of FetchPlain session_at bytes
 
 unfoldable pub take_at : List ℕ → Option Step
 take_at bytes = line_of TakeDirect session_at bytes
@@ -247,7 +271,9 @@ by_verb (line ∷ lines) w bytes = if bytes_eq w line.0 then line.1 bytes else b
 abbrev pub verbs : List (List ℕ × (List ℕ → Option Step))
 verbs =
     (codes "create", create_at) ∷ (codes "attach", attach_at) ∷ (codes "register", register_at) ∷ (codes "begin", begin_at)
-    ∷ (codes "direct", direct_at) ∷ (codes "heard", heard_at) ∷ (codes "take", take_at) ∷ (codes "ack", ack_at)
+    ∷ (codes "direct", direct_at) ∷ (codes "store", store_at) ∷ (codes "giveup", give_up_at) ∷ (codes "reread", reread_at)
+    ∷ (codes "nudge", nudge_at) ∷ (codes "heard", heard_at) ∷ (codes "lost", lost_at) ∷ (codes "check", check_at)
+    ∷ (codes "topics", topics_at) ∷ (codes "plains", plains_at) ∷ (codes "take", take_at) ∷ (codes "ack", ack_at)
     ∷ (codes "report", report_at) ∷ []
 
 -- the step of a line of the whole grammar

@@ -4,7 +4,7 @@ use Rattle.std.specs.List.{flat_map}
 use Rattle.push_model.specs.declared.reply.AckedFrom.{AckedFrom}
 use Rattle.push_model.specs.declared.reply.AckedFrom.TheVariants.{Direct as FromDirect, Stored as FromStored}
 use Rattle.push_model.specs.declared.reply.Reply.{Reply}
-use Rattle.push_model.specs.declared.reply.Reply.TheVariants.{Made, Taken, NotClaimed, NodeDown, Outrun, Attached, Endpoint, TokenTaken, NoSession, NoFlight, Stage as StageIs, NoToken, IdsSpent, Begun, Here, NotHere, End, Moved, Page, Acked, Unknown, Counts as CountsAre}
+use Rattle.push_model.specs.declared.reply.Reply.TheVariants.{Made, Taken, NotClaimed, NodeDown, Outrun, Attached, Endpoint, TokenTaken, NoSession, NoFlight, Stage as StageIs, NoToken, IdsSpent, Begun, Here, NotHere, Stored, Names, End, Moved, Due, NotDue, Page, Acked, Unknown, Counts as CountsAre}
 use Rattle.push_model.specs.declared.step.Stage.{Stage}
 use Rattle.push_model.specs.declared.step.Stage.TheVariants.{Direct, Told, Store, Reread, Nudge, ToldNudge, Clear, Saving, Idle, Topic, Plain, Displaced}
 use Rattle.push_model.specs.MessageValue.{MessageValue}
@@ -62,8 +62,12 @@ reply_line IdsSpent = codes "idsspent\n"
 reply_line (Begun i place) = codes "begun" ++ (word (decimal i.number) ++ (place_words place ++ lf))
 reply_line (Here u) = codes "here\n"
 reply_line NotHere = codes "nothere\n"
+reply_line Stored = codes "stored\n"
+reply_line (Names n a) = codes "names" ++ (word (decimal n) ++ (word (decimal a) ++ lf))
 reply_line (End code) = codes "end" ++ (word (decimal code) ++ lf)
 reply_line (Moved stage) = codes "moved" ++ (word (stage_word stage) ++ lf)
+reply_line Due = codes "due\n"
+reply_line NotDue = codes "notdue\n"
 reply_line (Page messages) = codes "page" ++ (flat_map (λ m. word (message_word m)) messages ++ lf)
 reply_line (Acked from) = codes "acked" ++ (word (list_word from) ++ lf)
 reply_line Unknown = codes "unknown\n"

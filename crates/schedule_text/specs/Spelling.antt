@@ -10,7 +10,7 @@ use Rattle.push_model.specs.declared.ids.Token.{Token}
 use Rattle.push_model.specs.declared.step.Actor.{Actor}
 use Rattle.push_model.specs.declared.step.Actor.TheVariants.{Flight, Saver}
 use Rattle.push_model.specs.declared.step.Step.{Step}
-use Rattle.push_model.specs.declared.step.Step.TheVariants.{Create, Attach, Register, Begin, Direct, Heard, TakeDirect, Ack, Report}
+use Rattle.push_model.specs.declared.step.Step.TheVariants.{Create, Attach, Register, Begin, Direct, Store, GiveUp, Reread, Nudge, Heard, Lost, TakeCheck, FetchTopic, FetchPlain, TakeDirect, Ack, Report}
 use Rattle.push_model.specs.AskValue.{AskValue}
 use Rattle.push_model.specs.SessionKey.{SessionKey}
 use Rattle.push_model.specs.Topics.{IsTopic}
@@ -42,7 +42,15 @@ spell (Attach s) = codes "attach" ++ session_words s
 spell (Register s h t) = codes "register" ++ (session_words s ++ (word (hex h.0) ++ word (token_word t)))
 spell (Begin o t a) = codes "begin" ++ (op_words o ++ (word (token_word t) ++ ask_words a))
 spell (Direct o) = codes "direct" ++ op_words o
+spell (Store o) = codes "store" ++ op_words o
+spell (GiveUp o) = codes "giveup" ++ op_words o
+spell (Reread actor) = codes "reread" ++ actor_words actor
+spell (Nudge actor) = codes "nudge" ++ actor_words actor
 spell (Heard actor) = codes "heard" ++ actor_words actor
+spell (Lost actor) = codes "lost" ++ actor_words actor
+spell (TakeCheck s) = codes "check" ++ session_words s
+spell (FetchTopic s) = codes "topics" ++ session_words s
+spell (FetchPlain s) = codes "plains" ++ session_words s
 spell (TakeDirect s) = codes "take" ++ session_words s
 spell (Ack s h i) = codes "ack" ++ (session_words s ++ (word (hex h.0) ++ word (decimal i.number)))
 spell Report = codes "report"
@@ -100,7 +108,15 @@ AreInRange (Attach s) = IsSession s
 AreInRange (Register s h t) = IsSession s × (IsChannel h × IsToken t)
 AreInRange (Begin o t a) = IsOp o × (IsToken t × IsLineAsk a)
 AreInRange (Direct o) = IsOp o
+AreInRange (Store o) = IsOp o
+AreInRange (GiveUp o) = IsOp o
+AreInRange (Reread actor) = IsActor actor
+AreInRange (Nudge actor) = IsActor actor
 AreInRange (Heard actor) = IsActor actor
+AreInRange (Lost actor) = IsActor actor
+AreInRange (TakeCheck s) = IsSession s
+AreInRange (FetchTopic s) = IsSession s
+AreInRange (FetchPlain s) = IsSession s
 AreInRange (TakeDirect s) = IsSession s
 AreInRange (Ack s h i) = IsSession s × (IsChannel h × IsId i)
 AreInRange Report = Unit {0}

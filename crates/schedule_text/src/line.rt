@@ -2,7 +2,7 @@
 ghost use Rattle.std.specs.Prelude.{◌≡◌, IfOk, Some};
 ghost use Rattle.push_model.specs.declared.step.Step.{Step};
 ghost use Rattle.schedule_text.specs.Spelling.{spell, InRange};
-ghost use Rattle.schedule_text.specs.Reading.{Gives, create_at, attach_at, register_at, begin_at, direct_at, heard_at, take_at, ack_at, report_at, whole_line_at, line_at};
+ghost use Rattle.schedule_text.specs.Reading.{Gives, create_at, attach_at, register_at, begin_at, direct_at, store_at, give_up_at, reread_at, nudge_at, heard_at, lost_at, check_at, topics_at, plains_at, take_at, ack_at, report_at, whole_line_at, line_at};
 
 use crate::fault::LineFault;
 use crate::opened::is_opened;
@@ -54,12 +54,76 @@ fn direct(mut words: Words) -> Result<Step, LineFault>
     words.end(Step::Direct(op))
 }
 
+#[tactic(auto, unfolding(crate::specs::Reading::store_at))]
+fn store(mut words: Words) -> Result<Step, LineFault>
+    ensures { Gives (λ x. x) result (store_at words.entry) }
+{
+    let op = words.op()?;
+    words.end(Step::Store(op))
+}
+
+#[tactic(auto, unfolding(crate::specs::Reading::give_up_at))]
+fn give_up(mut words: Words) -> Result<Step, LineFault>
+    ensures { Gives (λ x. x) result (give_up_at words.entry) }
+{
+    let op = words.op()?;
+    words.end(Step::GiveUp(op))
+}
+
+#[tactic(auto, unfolding(crate::specs::Reading::reread_at))]
+fn reread(mut words: Words) -> Result<Step, LineFault>
+    ensures { Gives (λ x. x) result (reread_at words.entry) }
+{
+    let actor = words.actor()?;
+    words.end(Step::Reread(actor))
+}
+
+#[tactic(auto, unfolding(crate::specs::Reading::nudge_at))]
+fn nudge(mut words: Words) -> Result<Step, LineFault>
+    ensures { Gives (λ x. x) result (nudge_at words.entry) }
+{
+    let actor = words.actor()?;
+    words.end(Step::Nudge(actor))
+}
+
 #[tactic(auto, unfolding(crate::specs::Reading::heard_at))]
 fn heard(mut words: Words) -> Result<Step, LineFault>
     ensures { Gives (λ x. x) result (heard_at words.entry) }
 {
     let actor = words.actor()?;
     words.end(Step::Heard(actor))
+}
+
+#[tactic(auto, unfolding(crate::specs::Reading::lost_at))]
+fn lost(mut words: Words) -> Result<Step, LineFault>
+    ensures { Gives (λ x. x) result (lost_at words.entry) }
+{
+    let actor = words.actor()?;
+    words.end(Step::Lost(actor))
+}
+
+#[tactic(auto, unfolding(crate::specs::Reading::check_at))]
+fn check(mut words: Words) -> Result<Step, LineFault>
+    ensures { Gives (λ x. x) result (check_at words.entry) }
+{
+    let session = words.session()?;
+    words.end(Step::TakeCheck(session))
+}
+
+#[tactic(auto, unfolding(crate::specs::Reading::topics_at))]
+fn topics(mut words: Words) -> Result<Step, LineFault>
+    ensures { Gives (λ x. x) result (topics_at words.entry) }
+{
+    let session = words.session()?;
+    words.end(Step::FetchTopic(session))
+}
+
+#[tactic(auto, unfolding(crate::specs::Reading::plains_at))]
+fn plains(mut words: Words) -> Result<Step, LineFault>
+    ensures { Gives (λ x. x) result (plains_at words.entry) }
+{
+    let session = words.session()?;
+    words.end(Step::FetchPlain(session))
 }
 
 #[tactic(auto, unfolding(crate::specs::Reading::take_at))]
@@ -103,8 +167,24 @@ fn read_whole(alloc: Global, line: &[u8]) -> Result<Step, LineFault>
         begin(alloc, words)
     } else if verb == b"direct".as_slice() {
         direct(words)
+    } else if verb == b"store".as_slice() {
+        store(words)
+    } else if verb == b"giveup".as_slice() {
+        give_up(words)
+    } else if verb == b"reread".as_slice() {
+        reread(words)
+    } else if verb == b"nudge".as_slice() {
+        nudge(words)
     } else if verb == b"heard".as_slice() {
         heard(words)
+    } else if verb == b"lost".as_slice() {
+        lost(words)
+    } else if verb == b"check".as_slice() {
+        check(words)
+    } else if verb == b"topics".as_slice() {
+        topics(words)
+    } else if verb == b"plains".as_slice() {
+        plains(words)
     } else if verb == b"take".as_slice() {
         take(words)
     } else if verb == b"ack".as_slice() {

@@ -2,7 +2,7 @@
 ghost use Rattle.std.specs.Prelude.{◌≡◌};
 ghost use Rattle.schedule_text.specs.Opened.{is_opened, is_opened_session, are_opened_terms};
 
-use push_model::{Actor, SessionId, Step, Terms, Urgency};
+use push_model::{SessionId, Step, Terms, Urgency};
 
 fn is_opened_session(session: &SessionId) -> bool
     ensures { result ≡ is_opened_session session.now }
@@ -17,7 +17,7 @@ fn are_opened_terms(terms: &Terms) -> bool
 }
 
 /// Whether the grammar is opened for the step: for the user 1 on the node 1, for messages that may be stored, without
-/// topic and of normal urgency, and for what flights hear.
+/// topic and of normal urgency, and for what flights do.
 pub fn is_opened(step: &Step) -> bool
     ensures { result ≡ is_opened step.now }
 {
@@ -25,10 +25,15 @@ pub fn is_opened(step: &Step) -> bool
         Step::Create(session)
         | Step::Attach(session)
         | Step::Register(session, _, _)
+        | Step::TakeCheck(session)
+        | Step::FetchTopic(session)
+        | Step::FetchPlain(session)
         | Step::TakeDirect(session)
         | Step::Ack(session, _, _) => is_opened_session(session),
         Step::Begin(_, _, ask) => are_opened_terms(&ask.terms),
-        Step::Heard(Actor::Saver(_)) => false,
-        Step::Heard(Actor::Flight(_)) | Step::Direct(_) | Step::Report => true,
+        Step::Reread(actor) | Step::Nudge(actor) | Step::Heard(actor) | Step::Lost(actor) => {
+            actor.is_flight()
+        }
+        Step::Direct(_) | Step::Store(_) | Step::GiveUp(_) | Step::Report => true,
     }
 }

@@ -46,6 +46,24 @@ impl fmt::Display for OpWords {
     }
 }
 
+/// An actor whose words `{}` writes, each behind a space.
+#[derive(Clone, Copy)]
+struct ActorWords(Actor);
+
+impl fmt::Display for ActorWords {
+    ghost use Rattle.std.specs.Prelude.{Some};
+    ghost use Rattle.schedule_text.specs.Spelling.{actor_words};
+
+    ghost output = { λ w. Some (actor_words w.0) };
+
+    fn fmt<W: fmt::Write>(&self, f: &mut fmt::Formatter<W>) -> fmt::Result {
+        match self.0 {
+            Actor::Flight(op) => write!(f, " f{}", OpWords(op)),
+            Actor::Saver(session) => write!(f, " s{}", SessionWords(session)),
+        }
+    }
+}
+
 /// A topic that `{}` writes, and a dot for none.
 #[derive(Clone, Copy)]
 struct TopicWord<'a>(&'a Option<Topic>);
@@ -122,8 +140,15 @@ fn step_words(alloc: Global, step: &Step) -> Result<String, AllocError>
             format!(in alloc; "begin{} {}{ask}", OpWords(*o), TokenWord(*t))
         }
         Step::Direct(o) => format!(in alloc; "direct{}", OpWords(*o)),
-        Step::Heard(Actor::Flight(o)) => format!(in alloc; "heard f{}", OpWords(*o)),
-        Step::Heard(Actor::Saver(s)) => format!(in alloc; "heard s{}", SessionWords(*s)),
+        Step::Store(o) => format!(in alloc; "store{}", OpWords(*o)),
+        Step::GiveUp(o) => format!(in alloc; "giveup{}", OpWords(*o)),
+        Step::Reread(actor) => format!(in alloc; "reread{}", ActorWords(*actor)),
+        Step::Nudge(actor) => format!(in alloc; "nudge{}", ActorWords(*actor)),
+        Step::Heard(actor) => format!(in alloc; "heard{}", ActorWords(*actor)),
+        Step::Lost(actor) => format!(in alloc; "lost{}", ActorWords(*actor)),
+        Step::TakeCheck(s) => format!(in alloc; "check{}", SessionWords(*s)),
+        Step::FetchTopic(s) => format!(in alloc; "topics{}", SessionWords(*s)),
+        Step::FetchPlain(s) => format!(in alloc; "plains{}", SessionWords(*s)),
         Step::TakeDirect(s) => format!(in alloc; "take{}", SessionWords(*s)),
         Step::Ack(s, h, i) => {
             format!(in alloc; "ack{} {} {}", SessionWords(*s), Hex(h.0), i.number)

@@ -23,7 +23,15 @@ fn reads_lines_and_prints_them_again(rt: HostRuntime) -> Result<(), Fail> {
         "begin 18446744073709551615 9223372036854775807 0 2592000 . normal .",
         "begin 3 7 a0b1 60 . normal 00ff",
         "direct 3 7",
+        "store 3 7",
+        "giveup 3 7",
+        "reread f 3 7",
+        "nudge f 3 7",
         "heard f 3 7",
+        "lost f 3 7",
+        "check 1 1 100",
+        "topics 1 1 100",
+        "plains 1 1 100",
         "take 1 1 100",
         "ack 1 1 100 ff 12",
         "report",
@@ -50,7 +58,16 @@ fn reads_lines_and_prints_them_again(rt: HostRuntime) -> Result<(), Fail> {
         "begin 3 7 a0b1 60 . normal 00f",
         "begin 3 7 a0b1 60 . normal 00fF",
         "begin 3 7 a0b1 2592001 . normal 00ff",
+        "store f 3 7",
+        "giveup 3",
+        "reread s 1 1 100",
+        "nudge s 1 1 100",
         "heard s 1 1 100",
+        "lost s 1 1 100",
+        "lost 3 7",
+        "check 2 1 100",
+        "topics 1 2 100",
+        "plains 1 1",
         "ack 1 1 100 ff 0",
     ] {
         assert_eq!(rt;
@@ -80,7 +97,7 @@ fn message(alloc: Global, number: u64, begin: &str) -> Result<Shared, LineFault>
 #[test]
 fn prints_replies(rt: HostRuntime) -> Result<(), Fail> {
     let alloc = rt.alloc();
-    let node = NodeId::new(2);
+    let node = NodeId::new(2).ok_or(LineFault::Outside)?;
     let id = MsgId {
         shard: 0,
         number: 12,
@@ -106,12 +123,13 @@ fn prints_replies(rt: HostRuntime) -> Result<(), Fail> {
         (Reply::Endpoint(Token(bytes)), "endpoint a00\n"),
         (Reply::Stage(Stage::Told(true)), "stage told\n"),
         (Reply::Begun(id, None), "begun 12 .\n"),
-        (
-            Reply::Begun(id, node.map(|node| (node, 100))),
-            "begun 12 2 100\n",
-        ),
+        (Reply::Begun(id, Some((node, 100))), "begun 12 2 100\n"),
         (Reply::Here(Uaid(1)), "here\n"),
+        (Reply::Stored, "stored\n"),
+        (Reply::Names(node, 100), "names 2 100\n"),
         (Reply::End(201), "end 201\n"),
+        (Reply::Due, "due\n"),
+        (Reply::NotDue, "notdue\n"),
         (Reply::Page(pages), "page 12:ff:00ff 13:ff:.\n"),
         (Reply::Acked(AckedFrom::Stored), "acked stored\n"),
         (

@@ -1,3 +1,4 @@
 mod AckLemmas
 mod CellLemmas
 mod PageLemmas
+mod StoreLemmas

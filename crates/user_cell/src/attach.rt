@@ -56,7 +56,7 @@ impl UserCell {
                 }
                 displace_by(alloc, &mut self.sessions, place, s)?;
                 self.claims.remove(claim);
-                unmark_for(&mut self.user, s);
+                unmark_for(&mut self.user, s.node, s.at);
                 Ok(Reply::Attached(Some(at)))
             }
             None => {
@@ -64,7 +64,7 @@ impl UserCell {
                     return Err(NoMemory);
                 }
                 self.claims.remove(claim);
-                unmark_for(&mut self.user, s);
+                unmark_for(&mut self.user, s.node, s.at);
                 Ok(Reply::Attached(None))
             }
         }

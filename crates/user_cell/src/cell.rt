@@ -8,7 +8,8 @@ ghost use Rattle.push_model.specs.Kinds.{takes_memory};
 use crate::saver::Saver;
 use crate::session::Session;
 use crate::user::{User, channels_of, token_place};
-use push_model::{Actor, ChannelId, Claim, FlightRow, NoMemory, Reply, Step, Token, Uaid};
+use flight_rows::Flights;
+use push_model::{Actor, ChannelId, Claim, NoMemory, Reply, Step, Token, Uaid};
 use std::alloc::Global;
 use std::marker::Model;
 
@@ -21,7 +22,7 @@ pub struct UserCell {
     pub(crate) claims: Vec<Claim>,
     pub(crate) sessions: Vec<Session>,
     pub(crate) savers: Vec<Saver>,
-    pub(crate) flights: Vec<FlightRow>,
+    pub(crate) flights: Flights,
 }
 
 impl Model for UserCell {
@@ -29,7 +30,7 @@ impl Model for UserCell {
 
     ghost Value = { Cell };
 
-    ghost view = { λ c. record { uaid = c.uaid; user = c.user; claims = c.claims.items; sessions = c.sessions.items; savers = c.savers.items; flights = c.flights.items } };
+    ghost view = { λ c. record { uaid = c.uaid; user = c.user; claims = c.claims.items; sessions = c.sessions.items; savers = c.savers.items; flights = c.flights } };
 }
 
 impl UserCell {
@@ -43,7 +44,7 @@ impl UserCell {
             claims: Vec::new(alloc),
             sessions: Vec::new(alloc),
             savers: Vec::new(alloc),
-            flights: Vec::new(alloc),
+            flights: Flights::new(alloc),
         }
     }
 
@@ -93,8 +94,19 @@ impl UserCell {
             Step::Attach(s) => self.attach(alloc, *s),
             Step::Register(s, chid, token) => self.register(*s, *chid, *token),
             Step::Direct(op) => self.direct(moment, *op),
+            Step::Store(op) => self.store(moment, *op),
+            Step::GiveUp(op) => Ok(self.give_up(*op)),
+            Step::Reread(Actor::Flight(op)) => Ok(self.reread(*op)),
+            Step::Reread(Actor::Saver(s)) => Ok(self.saver_reread(*s)),
+            Step::Nudge(Actor::Flight(op)) => Ok(self.nudge(*op)),
+            Step::Nudge(Actor::Saver(s)) => Ok(self.saver_nudge(*s)),
             Step::Heard(Actor::Flight(op)) => Ok(self.heard(*op)),
             Step::Heard(Actor::Saver(s)) => Ok(self.saver_heard(*s)),
+            Step::Lost(Actor::Flight(op)) => Ok(self.lost(*op)),
+            Step::Lost(Actor::Saver(s)) => Ok(self.saver_lost(*s)),
+            Step::TakeCheck(s) => Ok(self.take_check(*s)),
+            Step::FetchTopic(s) => self.fetch_topic(alloc, *s),
+            Step::FetchPlain(s) => self.fetch_plain(alloc, *s),
             Step::TakeDirect(s) => self.take_direct(alloc, moment, *s),
             Step::Ack(s, chid, id) => Ok(self.ack(*s, *chid, *id)),
             Step::Begin(_, _, _) | Step::Report => Ok(Reply::NoFlight),

@@ -2,9 +2,9 @@
 ghost use Rattle.std.specs.Prelude.{◌≡◌, ◌&&◌, ◌||◌, not, length, position, count_by, sum_by};
 ghost use Rattle.std.specs.List.{list_any};
 ghost use Rattle.push_model.specs.Keyed.{IsPlace};
-ghost use Rattle.push_model.specs.Sessions.{held};
+ghost use Rattle.push_model.specs.Sessions.{held, is_unsent};
 ghost use Rattle.push_model.specs.Cells.{is_place, is_routed_to};
-ghost use Rattle.push_model.specs.Covering.{stored_in, held_in, unsent_in, orphans_in, waiting_in, is_unsent, is_covered, flight_covers, saver_covers};
+ghost use Rattle.push_model.specs.Covering.{stored_in, held_in, unsent_in, orphans_in, waiting_in, is_covered, flight_covers, saver_covers};
 ghost use Rattle.push_model.specs.Tallies.{capped};
 
 use crate::cell::UserCell;
@@ -81,7 +81,7 @@ impl UserCell {
         ensures { result ≡ is_covered self.now session.now row.now }
     {
         session.comes_to(row)
-            || has_flight_that_covers(&self.flights, session, row)
+            || has_flight_that_covers(self.flights.rows(), session, row)
             || has_saver_that_covers(&self.savers, session, row)
             || row.orphan
     }

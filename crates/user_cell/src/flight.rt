@@ -1,21 +1,17 @@
 //! Flights: how the messages of application servers find their way.
-ghost use Rattle.std.specs.Prelude.{◌≡◌, ℕ, ◌^◌, ◌<◌, ◌++◌, ◌∷◌, [], IfOk, OnOk, OnErr, find, position, length};
+ghost use Rattle.std.specs.Prelude.{◌≡◌, ◌^◌, ◌<◌, ◌++◌, ◌∷◌, [], IfOk, OnOk, OnErr, find};
 ghost use Rattle.std.specs.List.{list_any};
-ghost use Rattle.push_model.specs.declared.parts.FlightRow.{FlightRow};
-ghost use Rattle.push_model.specs.declared.ids.Op.{Op};
-ghost use Rattle.push_model.specs.Keyed.{IsPlace, FoundAt};
-ghost use Rattle.push_model.specs.Sessions.{is_attached_at};
 ghost use Rattle.push_model.specs.Cells.{is_flight};
-ghost use Rattle.push_model.specs.CellSteps.{begin, flight, direct, direct_to, heard, to_store, with_stage, with_given};
+ghost use Rattle.push_model.specs.CellSteps.{begin, direct, store, flight_step, heard, lost, give_up, reread, nudge};
 ghost use Rattle.push_model.specs.Worlds.{stage_reply};
-ghost use Rattle.user_cell.specs.Flights.{IsFlightAt, IsReceiver};
 
 use crate::cell::UserCell;
-use crate::session::place_at;
-use crate::user::{channels_of, has_channel, routed_place};
-use push_model::{
-    FlightRow, Message, NoMemory, NodeId, Op, Reply, Shared, Stage, Token, is_expired,
-};
+use crate::giving::give_to;
+use crate::replies::{advance_reply, read_reply, stored_reply};
+use crate::storing::store_message;
+use crate::user::routed_place;
+use flight_rows::{Flight, Flights};
+use push_model::{Event, Message, NoMemory, Op, Reply, Shared, Stage, Token};
 use std::alloc::Global;
 
 impl UserCell {
@@ -23,15 +19,15 @@ impl UserCell {
     pub fn has_flight(&self, op: Op) -> bool
         ensures { result ≡ list_any (is_flight op) self.now.flights }
     {
-        flight_place(&self.flights, op).is_some()
+        self.flights.has(op)
     }
 
     /// The stage of that flight, or that there is none.
     pub fn stage_reply(&self, op: Op) -> Reply
         ensures { result ≡ stage_reply (find (is_flight op) self.now.flights) }
     {
-        match flight_place(&self.flights, op) {
-            Some(place) => Reply::Stage(self.flights[place].stage),
+        match self.flights.find(op) {
+            Some(flight) => Reply::Stage(flight.stage),
             None => Reply::NoFlight,
         }
     }
@@ -73,61 +69,36 @@ impl UserCell {
         ensures cell { OnOk result (self.new ≡ (direct moment op self.old).cell) }
         ensures err { OnErr result (self.new ≡ self.old) }
     {
-        let Some(place) = flight_place(&self.flights, op) else {
+        let Some(flight) = self.flights.find(op) else {
             return Ok(Reply::NoFlight);
         };
-        match self.flights[place].stage {
-            Stage::Direct(node, _) => self.direct_to(moment, place, node),
+        match flight.stage {
+            Stage::Direct(node, _) => {
+                let here = give_to(&mut self.sessions, &self.user, flight, node, moment)?;
+                let _ = self.flights.advance(op, Event::Direct(here));
+                Ok(self.told_reply(here))
+            }
             stage => Ok(Reply::Stage(stage)),
         }
     }
 
-    // gives the message of the flight at that place to the session attached at that node
-    fn direct_to(&mut self, moment: u64, place: usize, node: NodeId) -> Result<Reply, NoMemory>
-        requires moment { moment < 2 ^ 62 }
-        requires place { place < length self.old.flights }
-        ensures reply { IfOk result (λ r. (op : Op) (f : FlightRow) → IsFlightAt op place f self.old → r ≡ (direct_to node moment op f self.old).reply) }
-        ensures cell { OnOk result ((op : Op) (f : FlightRow) → IsFlightAt op place f self.old → self.new ≡ (direct_to node moment op f self.old).cell) }
-        ensures err { OnErr result (self.new ≡ self.old) }
-    {
-        let Some(receiver) = self.receiver(node, moment, &self.flights[place]) else {
-            self.go_on(place, Stage::Told(false));
-            return Ok(Reply::NotHere);
-        };
-        let shared = self.flights[place].message.share()?;
-        self.give(receiver, shared)?;
-        self.go_on(place, Stage::Told(true));
-        Ok(Reply::Here(self.uaid))
-    }
-
-    // gives the message to the session at that place
-    fn give(&mut self, place: usize, message: Shared) -> Result<(), NoMemory>
-        requires { place < length self.old.sessions }
-        ensures ok { OnOk result ((n : ℕ) → FoundAt (is_attached_at n) self.old.sessions place → self.new ≡ with_given n message self.old) }
-        ensures err { OnErr result (self.new ≡ self.old) }
-    {
-        let session = &mut self.sessions[place];
-        session.give(message)?;
-        Ok(())
-    }
-
-    // the place of the session attached at that node, if it can be given the flight's message
-    fn receiver(&self, node: NodeId, moment: u64, flight: &FlightRow) -> Option<usize>
+    /// Stores the flight's message, unless that is refused.
+    pub(crate) fn store(&mut self, moment: u64, op: Op) -> Result<Reply, NoMemory>
         requires { moment < 2 ^ 62 }
-        ensures { IsReceiver node moment flight.now self.now result }
+        ensures reply { IfOk result (λ r. r ≡ (store moment op self.old).reply) }
+        ensures cell { OnOk result (self.new ≡ (store moment op self.old).cell) }
+        ensures err { OnErr result (self.new ≡ self.old) }
     {
-        let Some(place) = place_at(&self.sessions, node) else {
-            return None;
+        let Some(flight) = self.flights.find(op) else {
+            return Ok(Reply::NoFlight);
         };
-        let session = &self.sessions[place];
-        let message = flight.message.message();
-        if session.has_room()
-            && has_channel(channels_of(&self.user), message.chid, &flight.token)
-            && !is_expired(message, moment)
-        {
-            Some(place)
-        } else {
-            None
+        match flight.stage {
+            Stage::Store => {
+                let event = store_message(&mut self.user, flight, moment)?;
+                let advance = self.flights.advance(op, event);
+                Ok(stored_reply(advance))
+            }
+            stage => Ok(Reply::Stage(stage)),
         }
     }
 
@@ -136,80 +107,80 @@ impl UserCell {
         ensures reply { result ≡ (heard op self.old).reply }
         ensures cell { self.new ≡ (heard op self.old).cell }
     {
-        let Some(place) = flight_place(&self.flights, op) else {
+        self.flight_step(op, Event::Heard)
+    }
+
+    /// The flight hears nothing, since its link was lost.
+    pub(crate) fn lost(&mut self, op: Op) -> Reply
+        ensures reply { result ≡ (lost op self.old).reply }
+        ensures cell { self.new ≡ (lost op self.old).cell }
+    {
+        self.flight_step(op, Event::Lost)
+    }
+
+    /// Ends the flight, if its message isn't stored.
+    pub(crate) fn give_up(&mut self, op: Op) -> Reply
+        ensures reply { result ≡ (give_up op self.old).reply }
+        ensures cell { self.new ≡ (give_up op self.old).cell }
+    {
+        self.flight_step(op, Event::GiveUp)
+    }
+
+    // what an event alone does
+    fn flight_step(&mut self, op: Op, event: Event) -> Reply
+        ensures reply { result ≡ (flight_step event op self.old).reply }
+        ensures cell { self.new ≡ (flight_step event op self.old).cell }
+    {
+        let advance = self.flights.advance(op, event);
+        advance_reply(advance, Reply::NoFlight)
+    }
+
+    /// The flight reads in the route row whom it is to nudge.
+    pub(crate) fn reread(&mut self, op: Op) -> Reply
+        ensures reply { result ≡ (reread op self.old).reply }
+        ensures cell { self.new ≡ (reread op self.old).cell }
+    {
+        let event = Event::Read(routed_place(&self.user));
+        let advance = self.flights.advance(op, event);
+        read_reply(advance, Reply::NoFlight)
+    }
+
+    /// The flight tells the session that it is to nudge, if that is attached.
+    pub(crate) fn nudge(&mut self, op: Op) -> Reply
+        ensures reply { result ≡ (nudge op self.old).reply }
+        ensures cell { self.new ≡ (nudge op self.old).cell }
+    {
+        let Some(flight) = self.flights.find(op) else {
             return Reply::NoFlight;
         };
-        match self.flights[place].stage {
-            Stage::Told(true) | Stage::ToldNudge(true, _, _) => {
-                self.flights.remove(place);
-                Reply::End(201)
-            }
-            Stage::Told(false) => self.to_store(place),
-            Stage::ToldNudge(false, node, at) => {
-                self.go_on(place, Stage::Clear(node, at));
-                Reply::Moved(Stage::Clear(node, at))
+        match flight.stage {
+            Stage::Nudge(node, _) => {
+                let told = self.tell(node);
+                let _ = self.flights.advance(op, Event::Nudged(told));
+                self.told_reply(told)
             }
             stage => Reply::Stage(stage),
         }
-    }
-
-    // the message of the flight at that place goes into the table, unless its ttl is 0
-    fn to_store(&mut self, place: usize) -> Reply
-        requires { place < length self.old.flights }
-        ensures reply { (op : Op) (f : FlightRow) → IsFlightAt op place f self.old → result ≡ (to_store op f self.old).reply }
-        ensures cell { (op : Op) (f : FlightRow) → IsFlightAt op place f self.old → self.new ≡ (to_store op f self.old).cell }
-    {
-        let flight = &self.flights[place];
-        if flight.message.message().ask.terms.ttl == 0 {
-            self.flights.remove(place);
-            return Reply::End(201);
-        }
-        self.go_on(place, Stage::Store);
-        Reply::Moved(Stage::Store)
-    }
-
-    // the flight at that place goes on at that stage
-    fn go_on(&mut self, place: usize, stage: Stage)
-        requires { place < length self.old.flights }
-        ensures { (op : Op) → FoundAt (is_flight op) self.old.flights place → self.new ≡ with_stage op stage self.old }
-    {
-        let flight = &mut self.flights[place];
-        flight.stage = stage;
     }
 }
 
 // adds the flight as the last
 fn add_flight(
     alloc: Global,
-    flights: &mut Vec<FlightRow>,
+    flights: &mut Flights,
     op: Op,
     token: Token,
     message: Message,
     stage: Stage,
 ) -> Result<(), NoMemory>
-    ensures ok { OnOk result (flights.new.items ≡ flights.old.items ++ record { op = op; message = message; token = token; stage = stage } ∷ []) }
-    ensures err { OnErr result (flights.new.items ≡ flights.old.items) }
+    ensures ok { OnOk result (flights.new ≡ flights.old ++ record { op = op; message = message; token = token; stage = stage } ∷ []) }
+    ensures err { OnErr result (flights.new ≡ flights.old) }
 {
-    let flight = FlightRow {
-        op,
-        message: Shared::new(alloc, message)?,
+    let message = Shared::new(alloc, message)?;
+    let flight = Flight {
+        message,
         token,
         stage,
     };
-    match flights.push(flight) {
-        Ok(()) => Ok(()),
-        Err(_) => Err(NoMemory),
-    }
-}
-
-fn first_flight(flights: &[FlightRow], op: Op) -> Option<usize>
-    ensures { result ≡ position (is_flight op) flights.now }
-{
-    flights.iter().position(|flight| flight.op.is_same(&op))
-}
-
-fn flight_place(flights: &[FlightRow], op: Op) -> Option<usize>
-    ensures { IsPlace (is_flight op) flights.now result }
-{
-    first_flight(flights, op)
+    flights.append(op, flight)
 }

@@ -7,7 +7,7 @@ use push_model::{NoMemory, Shared, is_expired};
 use std::alloc::Global;
 
 /// How many messages a page has at most.
-const PAGE: usize = 10;
+pub(crate) const PAGE: usize = 10;
 
 /// The first ten that aren't expired at that moment, in seconds below 2^62.
 #[tactic(auto, using(crate::proofs::PageLemmas::page_more))]

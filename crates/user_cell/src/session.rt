@@ -3,9 +3,10 @@ ghost use Rattle.std.specs.Prelude.{◌≡◌, ◌^◌, ◌<◌, ◌&&◌, ◌||
 ghost use Rattle.std.specs.List.{list_any};
 ghost use Rattle.push_model.specs.Keyed.{without_first, IsPlace};
 ghost use Rattle.push_model.specs.Messages.{is_message};
-ghost use Rattle.push_model.specs.Sessions.{new_session, is_session, is_attached, is_attached_at, session_stage, fetch_stage, displaced, held, has_room, given, next_page, taken, acked_in};
+ghost use Rattle.push_model.specs.Sessions.{new_session, is_session, is_attached, is_attached_at, session_stage, fetch_stage, displaced, held, has_room, given, next_page, taken, acked_in, is_unsent};
 ghost use Rattle.push_model.specs.Cells.{is_place};
-ghost use Rattle.push_model.specs.Covering.{is_unsent, fetch_covers, stage_covers};
+ghost use Rattle.push_model.specs.Covering.{fetch_covers, stage_covers};
+ghost use Rattle.push_model.specs.CellSteps.{checked};
 ghost use Rattle.user_cell.specs.Acks.{acked_from};
 
 use crate::page::{drop_expired, drop_front, first_unexpired, share_all};
@@ -30,10 +31,10 @@ pub(crate) struct Session {
     /// Messages that were shown and not acknowledged.
     direct: Vec<Shared>,
     /// Stored messages that were sent and not acknowledged.
-    sent: IdList,
+    pub(crate) sent: IdList,
     /// Whether the stored rows are still to be looked at.
-    check: bool,
-    fetch: Fetch,
+    pub(crate) check: bool,
+    pub(crate) fetch: Fetch,
 }
 
 impl Model for Session {
@@ -141,6 +142,13 @@ impl Session {
         self.displaced = true;
     }
 
+    /// It is to look at the stored rows.
+    pub(crate) fn recheck(&mut self)
+        ensures { self.new ≡ checked self.old }
+    {
+        self.check = true;
+    }
+
     /// How many messages it holds: those that were shown and not acknowledged, and those that wait.
     pub(crate) fn held(&self) -> usize
         ensures { result ≡ length (held self.now) }
@@ -202,7 +210,8 @@ impl Session {
     }
 }
 
-fn fetch_stage(fetch: Fetch) -> Stage
+/// The stage that names the fetch.
+pub(crate) fn fetch_stage(fetch: Fetch) -> Stage
     ensures { result ≡ fetch_stage fetch }
 {
     match fetch {

@@ -3,9 +3,10 @@ ghost use Rattle.std.specs.Prelude.{◌≡◌, ◌&&◌, ◌++◌, ◌∷◌, []
 ghost use Rattle.std.specs.List.{list_any};
 ghost use Rattle.push_model.specs.Keyed.{without_first, IsPlace};
 ghost use Rattle.push_model.specs.Cells.{is_channel, is_token, is_row, channels_of, rows_of, place_of, routed_place, is_routed_to, unmarked_row, unmarked_for};
-ghost use Rattle.push_model.specs.CellSteps.{new_user, with_channel, without_row};
+ghost use Rattle.push_model.specs.CellSteps.{new_user, with_channel, without_row, stored_rows, with_stored};
 
-use push_model::{Channel, ChannelId, MsgId, NoMemory, NodeId, Row, SessionId, Token};
+use crate::rows::{keep_row, row_place, unmark_rows};
+use push_model::{Channel, ChannelId, MsgId, NoMemory, NodeId, Row, SessionId, Shared, Token};
 use std::alloc::Global;
 use std::marker::Model;
 
@@ -111,6 +112,14 @@ impl User {
         }
     }
 
+    /// Adds the message as the last row, in place of a row of its channel and topic.
+    fn keep_row(&mut self, message: &Shared) -> Result<(), NoMemory>
+        ensures ok { OnOk result (self.new ≡ record self.old { rows = stored_rows message.now self.old.rows }) }
+        ensures err { OnErr result (self.new ≡ self.old) }
+    {
+        keep_row(&mut self.rows, message)
+    }
+
     /// Takes the orphan marks from the rows.
     fn unmark(&mut self)
         ensures { self.new ≡ record self.old { rows = map unmarked_row self.old.rows } }
@@ -169,52 +178,36 @@ pub(crate) fn remove_row(user: &mut Option<User>, id: MsgId)
     }
 }
 
-fn is_routed_to(user: &Option<User>, s: SessionId) -> bool
-    ensures { result ≡ is_routed_to s.node s.at user.now }
+/// Adds the message as the user's last row, in place of a row of its channel and topic, where there is a user.
+pub(crate) fn add_row(user: &mut Option<User>, message: &Shared) -> Result<(), NoMemory>
+    ensures ok { OnOk result (user.new ≡ with_stored message.now user.old) }
+    ensures err { OnErr result (user.new ≡ user.old) }
+{
+    match user {
+        Some(user) => user.keep_row(message),
+        None => Ok(()),
+    }
+}
+
+fn is_routed_to(user: &Option<User>, node: NodeId, at: u64) -> bool
+    ensures { result ≡ is_routed_to node at user.now }
 {
     match routed_place(user) {
-        Some((node, at)) => node == s.node && at == s.at,
+        Some((routed, moment)) => routed == node && moment == at,
         None => false,
     }
 }
 
-/// Takes the orphan marks from the user's rows, if the route row names that session.
-pub(crate) fn unmark_for(user: &mut Option<User>, s: SessionId)
-    ensures { user.new ≡ unmarked_for s.node s.at user.old }
+/// Takes the orphan marks from the user's rows, if the route row names the session of that node and moment.
+pub(crate) fn unmark_for(user: &mut Option<User>, node: NodeId, at: u64)
+    ensures { user.new ≡ unmarked_for node at user.old }
 {
-    if !is_routed_to(user, s) {
+    if !is_routed_to(user, node, at) {
         return;
     }
     if let Some(user) = user {
         user.unmark();
     }
-}
-
-#[tactic(auto, using(crate::proofs::CellLemmas::unmarked_more))]
-fn unmark_rows(rows: &mut Vec<Row>)
-    ensures { rows.new.items ≡ map unmarked_row rows.old.items }
-{
-    for row in rows.iter_mut() {
-        row.orphan = false;
-    }
-}
-
-fn is_row(row: &Row, id: MsgId) -> bool
-    ensures { result ≡ is_row id row.now }
-{
-    row.message.message().id.is_same(&id)
-}
-
-fn first_row(rows: &[Row], id: MsgId) -> Option<usize>
-    ensures { result ≡ position (is_row id) rows.now }
-{
-    rows.iter().position(|row| is_row(row, id))
-}
-
-fn row_place(rows: &[Row], id: MsgId) -> Option<usize>
-    ensures { IsPlace (is_row id) rows.now result }
-{
-    first_row(rows, id)
 }
 
 fn first_channel(channels: &[Channel], chid: ChannelId) -> Option<usize>

@@ -1,0 +1,131 @@
+//! Schedules of the stored path.
+
+use autopush_main::autopush_replay;
+use push_outside::{SureSink, SureSource};
+use std::alloc::{AllocError, Global};
+use std::fmt::Write;
+use std::process::Abort;
+use std::test::Fail;
+
+const OPENING: &str = "create 1 1 100\nattach 1 1 100\nregister 1 1 100 5 1ab\n";
+
+const OPENED: &str = "made\nattached .\nendpoint 1ab\n";
+
+// Replays the opening and the schedule, and compares all that was written.
+fn replay(rt: &impl Abort, alloc: Global, schedule: &str, written: &str) -> Result<(), Fail> {
+    let mut words = Vec::new(alloc);
+    words.push(String::from_str(alloc, "replay")?)?;
+    let lines = format!(in alloc; "{OPENING}{schedule}")?;
+    let mut input = SureSource::new(Vec::from_slice(alloc, lines.as_bytes())?);
+    let mut output = SureSink::new(alloc);
+    assert_eq!(rt; autopush_replay(alloc, &words, &mut input, &mut output), 0);
+    let all = format!(in alloc; "{OPENED}{written}")?;
+    assert!(rt;
+        output.bytes() == all.as_bytes(),
+        "what is written by {schedule}"
+    );
+    Ok(())
+}
+
+#[test]
+fn each_stage(rt: HostRuntime) -> Result<(), Fail> {
+    let alloc = rt.alloc();
+    for (schedule, written) in [
+        // Held and stored after a lost link: shown twice, acknowledged once.
+        (
+            "begin 1 1 1ab 60 . normal 6869\ndirect 1 1\nlost f 1 1\nstore 1 1\nreread f 1 1\nnudge f 1 1\nheard f 1 1\ntake 1 1 100\ncheck 1 1 100\ntopics 1 1 100\nplains 1 1 100\nack 1 1 100 5 1\nack 1 1 100 5 1\nreport\n",
+            "begun 1 1 100\nhere\nmoved store\nstored\nnames 1 100\nhere\nend 201\npage 1:5:6869\ndue\npage\npage 1:5:6869\nacked direct\nunknown\nreport users 1 stored 0 held 0 flights 0 unsent 0 orphans 0 waiting 0\n",
+        ),
+        // Stored and not yet told of: the session's check covers it, then the flight.
+        (
+            "begin 1 1 1ab 60 . normal 01\nlost f 1 1\nstore 1 1\nreport\ncheck 1 1 100\nreport\ntopics 1 1 100\nplains 1 1 100\nack 1 1 100 5 1\nack 1 1 100 5 1\nreport\n",
+            "begun 1 1 100\nmoved store\nstored\nreport users 1 stored 1 held 0 flights 1 unsent 1 orphans 0 waiting 0\ndue\nreport users 1 stored 1 held 0 flights 1 unsent 1 orphans 0 waiting 0\npage\npage 1:5:01\nacked stored\nunknown\nreport users 1 stored 0 held 0 flights 1 unsent 0 orphans 0 waiting 0\n",
+        ),
+        // Fetches out of their order.
+        (
+            "topics 1 1 100\nplains 1 1 100\ncheck 1 1 100\nplains 1 1 100\ncheck 1 1 100\ntopics 1 1 100\ntopics 1 1 100\nplains 1 1 100\nplains 1 1 100\ncheck 1 1 100\n",
+            "stage idle\nstage idle\ndue\nstage topic\nnotdue\npage\nstage plain\npage\nstage idle\nnotdue\n",
+        ),
+        // Giving up at direct, told and store, and not after.
+        (
+            "begin 1 1 1ab 60 . normal .\ngiveup 1 1\nbegin 1 2 1ab 60 . normal .\ndirect 1 2\ngiveup 1 2\nbegin 1 3 1ab 60 . normal .\nlost f 1 3\ngiveup 1 3\nbegin 1 4 1ab 60 . normal .\nlost f 1 4\nstore 1 4\ngiveup 1 4\nreread f 1 4\ngiveup 1 4\nnudge f 1 4\ngiveup 1 4\nlost f 1 4\ngiveup 1 4\ngiveup 9 9\n",
+            "begun 1 1 100\nend 500\nbegun 2 1 100\nhere\nend 500\nbegun 3 1 100\nmoved store\nend 500\nbegun 4 1 100\nmoved store\nstored\nstage reread\nnames 1 100\nstage nudge\nhere\nstage toldnudge\nmoved clear\nstage clear\nnoflight\n",
+        ),
+        // Steps at other stages.
+        (
+            "begin 1 1 1ab 60 . normal .\nstore 1 1\nreread f 1 1\nnudge f 1 1\nlost f 1 1\nlost f 1 1\ndirect 1 1\nstore 1 1\nstore 1 1\nlost f 1 1\nheard f 1 1\nreread f 1 1\nlost f 1 1\nheard f 1 1\nstore 9 9\nlost f 9 9\nreread f 9 9\nnudge f 9 9\ncheck 1 1 9\ntopics 1 1 9\nplains 1 1 9\n",
+            "begun 1 1 100\nstage direct\nstage direct\nstage direct\nmoved store\nstage store\nstage store\nstored\nstage reread\nstage reread\nstage reread\nnames 1 100\nmoved clear\nstage clear\nnoflight\nnoflight\nnoflight\nnoflight\nnosession\nnosession\nnosession\n",
+        ),
+    ] {
+        replay(&rt, alloc, schedule, written)?;
+    }
+    Ok(())
+}
+
+// Stored messages, each routed to its end.
+fn store_messages(
+    schedule: &mut String,
+    written: &mut String,
+    count: u32,
+) -> Result<(), AllocError> {
+    for k in 1..=count {
+        write!(
+            schedule,
+            "begin 1 {k} 1ab 60 . normal .\nlost f 1 {k}\nstore 1 {k}\nreread f 1 {k}\nnudge f 1 {k}\nheard f 1 {k}\n"
+        )?;
+        write!(
+            written,
+            "begun {k} 1 100\nmoved store\nstored\nnames 1 100\nhere\nend 201\n"
+        )?;
+    }
+    Ok(())
+}
+
+// A check that is due, its two pages, a check that isn't due, and the acknowledgements of all but nothing.
+fn fetch_page(
+    schedule: &mut String,
+    written: &mut String,
+    first: u32,
+    last: u32,
+) -> Result<(), AllocError> {
+    schedule.push_str("check 1 1 100\ntopics 1 1 100\nplains 1 1 100\n")?;
+    written.push_str("due\npage\npage")?;
+    for id in first..=last {
+        write!(written, " {id}:5:.")?;
+    }
+    written.push_str("\n")?;
+    for id in first..=last {
+        write!(schedule, "check 1 1 100\nack 1 1 100 5 {id}\n")?;
+        written.push_str("notdue\nacked stored\n")?;
+    }
+    Ok(())
+}
+
+#[test]
+fn pages_of_25_rows(rt: HostRuntime) -> Result<(), Fail> {
+    let alloc = rt.alloc();
+    let mut schedule = String::new(alloc);
+    let mut written = String::new(alloc);
+    store_messages(&mut schedule, &mut written, 25)?;
+    fetch_page(&mut schedule, &mut written, 1, 10)?;
+    fetch_page(&mut schedule, &mut written, 11, 20)?;
+    fetch_page(&mut schedule, &mut written, 21, 25)?;
+    schedule.push_str("check 1 1 100\nreport\n")?;
+    written.push_str(
+        "notdue\nreport users 1 stored 0 held 0 flights 0 unsent 0 orphans 0 waiting 0\n",
+    )?;
+    replay(&rt, alloc, schedule.as_str(), written.as_str())
+}
+
+#[test]
+fn a_user_has_1000_rows(rt: HostRuntime) -> Result<(), Fail> {
+    let alloc = rt.alloc();
+    let mut schedule = String::new(alloc);
+    let mut written = String::new(alloc);
+    store_messages(&mut schedule, &mut written, 1000)?;
+    schedule.push_str("begin 1 1001 1ab 60 . normal .\nlost f 1 1001\nstore 1 1001\nreport\n")?;
+    written.push_str(
+        "begun 1001 1 100\nmoved store\nend 503\nreport users 1 stored 1000 held 0 flights 0 unsent 1000 orphans 0 waiting 0\n",
+    )?;
+    replay(&rt, alloc, schedule.as_str(), written.as_str())
+}
