@@ -12,7 +12,7 @@ use Rattle.push_model.specs.Sessions.{Session, is_attached, is_sent, has_direct,
 use Rattle.push_model.specs.Cells.{Cell}
 use Rattle.push_model.specs.CellSteps.{outcome, ack, acked}
 use Rattle.push_model.proofs.KeyedLemmas.{without_first-absent}
-use Rattle.user_cell.specs.Acks.{acked_from}
+use Rattle.user_sessions.specs.Acks.{acked_from}
 
 found_by : (b d : Bool) (from : AckedFrom) (c e : Cell) → Some from ≡ (if b then Some Direct else if d then Some Stored else None) → (if b then outcome e (Acked Direct) else if d then outcome e (Acked Stored) else outcome c Unknown) ≡ outcome e (Acked from)
 found_by true d from c e is = cc

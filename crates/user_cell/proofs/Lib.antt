@@ -1,4 +1,2 @@
 mod AckLemmas
-mod CellLemmas
-mod PageLemmas
 mod StoreLemmas

@@ -12,9 +12,10 @@ use Rattle.push_model.specs.Messages.{is_expired}
 use Rattle.push_model.specs.Cells.{Cell, is_flight, is_row, shares_topic, rows_of}
 use Rattle.push_model.specs.Advances.{advance_of, advanced}
 use Rattle.push_model.specs.CellSteps.{Outcome, outcome, answered, with_stage, stored, store, store_message, store_row, store_beside, has_token}
-use Rattle.user_cell.specs.declared.storing.Storing.{Storing}
-use Rattle.user_cell.specs.declared.storing.Storing.TheVariants.{Ends, Stays, Joins}
-use Rattle.user_cell.specs.Storings.{storing_of, row_storing, storing_beside, storing_event, kept_by, stored_reply}
+use Rattle.user_rows.specs.declared.storing.Storing.{Storing}
+use Rattle.user_rows.specs.declared.storing.Storing.TheVariants.{Ends, Stays, Joins}
+use Rattle.user_rows.specs.Storings.{storing_of, row_storing, storing_beside, storing_event, kept_by}
+use Rattle.user_cell.specs.StoredReply.{stored_reply}
 
 abbrev outcome_by : Storing → Op → MessageValue → Cell → Outcome
 outcome_by (Ends code) o m c = answered code o c

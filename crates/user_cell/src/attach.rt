@@ -6,10 +6,10 @@ ghost use Rattle.push_model.specs.Cells.{is_claim};
 ghost use Rattle.push_model.specs.CellSteps.{create, attach};
 
 use crate::cell::UserCell;
-use crate::session::{Session, place_at};
-use crate::user::{User, unmark_for};
 use push_model::{Claim, NoMemory, Reply, SessionId};
 use std::alloc::Global;
+use user_rows::{User, unmark_for};
+use user_sessions::{Session, place_at};
 
 impl UserCell {
     /// Makes the user, routed to that session, and opens the session's claim.

@@ -5,13 +5,12 @@ ghost use Rattle.push_model.specs.Cells.{empty_cell, is_token, channels_of};
 ghost use Rattle.push_model.specs.CellSteps.{cell_step};
 ghost use Rattle.push_model.specs.Kinds.{takes_memory};
 
-use crate::saver::Saver;
-use crate::session::Session;
-use crate::user::{User, channels_of, token_place};
 use flight_rows::Flights;
 use push_model::{Actor, ChannelId, Claim, NoMemory, Reply, Step, Token, Uaid};
 use std::alloc::Global;
 use std::marker::Model;
+use user_rows::{User, channels_of, token_place};
+use user_sessions::{Saver, Session};
 
 /// What a shard keeps of one user: the user, if there is one, and the user's open claims, sessions, closed sessions
 /// and flights. Contracts see the record of these.

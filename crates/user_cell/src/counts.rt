@@ -8,10 +8,9 @@ ghost use Rattle.push_model.specs.Covering.{stored_in, held_in, unsent_in, orpha
 ghost use Rattle.push_model.specs.Tallies.{capped};
 
 use crate::cell::UserCell;
-use crate::saver::Saver;
-use crate::session::Session;
-use crate::user::{routed_place, rows_of};
 use push_model::{FlightRow, NodeId, Row};
+use user_rows::{routed_place, rows_of};
+use user_sessions::{Saver, Session};
 
 impl UserCell {
     /// How many messages are stored.

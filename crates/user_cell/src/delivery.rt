@@ -3,10 +3,10 @@ ghost use Rattle.std.specs.Prelude.{◌≡◌, ◌^◌, ◌<◌, IfOk, OnOk, OnE
 ghost use Rattle.push_model.specs.CellSteps.{take_direct, ack};
 
 use crate::cell::UserCell;
-use crate::session::attached_place;
-use crate::user::remove_row;
 use push_model::{ChannelId, MsgId, NoMemory, Reply, SessionId};
 use std::alloc::Global;
+use user_rows::remove_row;
+use user_sessions::attached_place;
 
 impl UserCell {
     /// Shows that session its next messages.

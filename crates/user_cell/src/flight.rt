@@ -8,11 +8,10 @@ ghost use Rattle.push_model.specs.Worlds.{stage_reply};
 use crate::cell::UserCell;
 use crate::giving::give_to;
 use crate::replies::{advance_reply, read_reply, stored_reply};
-use crate::storing::store_message;
-use crate::user::routed_place;
 use flight_rows::{Flight, Flights};
 use push_model::{Event, Message, NoMemory, Op, Reply, Shared, Stage, Token};
 use std::alloc::Global;
+use user_rows::{routed_place, store_message};
 
 impl UserCell {
     /// Whether that flight is on its way.

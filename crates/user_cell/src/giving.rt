@@ -3,9 +3,9 @@ ghost use Rattle.std.specs.Prelude.{◌≡◌, ◌^◌, ◌<◌, IfOk, OnOk, OnE
 ghost use Rattle.push_model.specs.Sessions.{is_attached_at};
 ghost use Rattle.user_cell.specs.Flights.{IsReceiver, can_take, with_received};
 
-use crate::session::{Session, place_at};
-use crate::user::{User, channels_of, has_channel};
 use push_model::{FlightRow, NoMemory, NodeId, is_expired};
+use user_rows::{User, channels_of, has_channel};
+use user_sessions::{Session, place_at};
 
 /// Gives the flight's message to the session attached at that node, if it can take it at that moment, in seconds below
 /// 2^62, and says whether it was given.

@@ -9,15 +9,8 @@ mod fetch;
 mod flight;
 mod giving;
 mod nudge;
-mod page;
 mod register;
 mod replies;
-mod rows;
-mod saver;
-mod saver_advance;
 mod saver_steps;
-mod session;
-mod storing;
-mod user;
 
 pub use cell::UserCell;

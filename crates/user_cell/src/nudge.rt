@@ -5,9 +5,9 @@ ghost use Rattle.push_model.specs.CellSteps.{told};
 ghost use Rattle.user_cell.specs.Nudges.{told_to};
 
 use crate::cell::UserCell;
-use crate::session::place_at;
-use crate::user::unmark_for;
 use push_model::{NodeId, Reply};
+use user_rows::unmark_for;
+use user_sessions::place_at;
 
 impl UserCell {
     /// The session attached at that node is to look at the rows, and where the route row names it, the rows lose their

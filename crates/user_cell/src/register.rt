@@ -3,9 +3,9 @@ ghost use Rattle.std.specs.Prelude.{◌≡◌, IfOk, OnOk, OnErr};
 ghost use Rattle.push_model.specs.CellSteps.{register, lacks};
 
 use crate::cell::UserCell;
-use crate::session::attached_place;
-use crate::user::{add_channel, channel_place, channels_of};
 use push_model::{Channel, ChannelId, NoMemory, Reply, SessionId, Token};
+use user_rows::{add_channel, channel_place, channels_of};
+use user_sessions::attached_place;
 
 impl UserCell {
     /// Whether that session is attached, and its user has no such channel.

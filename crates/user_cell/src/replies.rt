@@ -2,7 +2,7 @@
 ghost use Rattle.std.specs.Prelude.{◌≡◌};
 ghost use Rattle.push_model.specs.declared.reply.Reply.{Reply};
 ghost use Rattle.push_model.specs.CellSteps.{advance_reply, read_reply};
-ghost use Rattle.user_cell.specs.Storings.{stored_reply};
+ghost use Rattle.user_cell.specs.StoredReply.{stored_reply};
 
 use push_model::{Advance, Reply, Stage};
 

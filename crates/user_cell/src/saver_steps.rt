@@ -5,11 +5,9 @@ ghost use Rattle.push_model.specs.CellSteps.{saver_step, saver_heard, saver_lost
 
 use crate::cell::UserCell;
 use crate::replies::{advance_reply, read_reply};
-use crate::saver::saver_place;
-use crate::saver_advance::advance_saver;
-use crate::session::named_place;
-use crate::user::routed_place;
 use push_model::{Event, Reply, SessionId, Stage};
+use user_rows::routed_place;
+use user_sessions::{advance_saver, named_place, saver_place};
 
 impl UserCell {
     /// The saver of that session hears whether its nudge was taken.

@@ -1,7 +1,7 @@
 use Rattle.std.proofs.Common.{◌≡◌, ◌++◌, ◌∷◌, [], arith}
 use Rattle.std.proofs.lemmas.Grind.{common_steps}
 use Rattle.push_model.specs.Sessions.{is_attached_at, new_session, displaced}
-use Rattle.user_cell.proofs.CellLemmas.{changed_and_pushed}
+use Rattle.push_model.proofs.KeyedLemmas.{changed_and_pushed}
 use Rattle.user_cell.proofs.attach.displace_by.Goals as goal
 
 pub returns-clause-ok : goal.returns-clause-ok

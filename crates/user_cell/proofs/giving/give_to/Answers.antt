@@ -1,6 +1,6 @@
 use Rattle.push_model.specs.Keyed.{FoundAt}
 use Rattle.push_model.specs.Sessions.{is_attached_at, given}
-use Rattle.user_cell.proofs.CellLemmas.{changed_at}
+use Rattle.push_model.proofs.KeyedLemmas.{changed_at}
 use Rattle.user_cell.proofs.giving.give_to.Goals as goal
 
 pub returns-clause-sessions : goal.returns-clause-sessions

@@ -3,7 +3,7 @@ use Rattle.std.specs.Prelude.{slice_index_or}
 use Rattle.push_model.specs.Keyed.{FoundAt}
 use Rattle.push_model.specs.Sessions.{is_attached, acked_in}
 use Rattle.user_cell.proofs.AckLemmas.{ack_found, ack_unknown, acked_in_unknown}
-use Rattle.user_cell.proofs.CellLemmas.{changed_at, first_at, same_at}
+use Rattle.push_model.proofs.KeyedLemmas.{changed_at, first_at, same_at}
 use Rattle.user_cell.proofs.cell.UserCell.ack.Goals as goal
 
 pub returns-in-Some-acknowledge-clause-cell : goal.returns-in-Some-acknowledge-clause-cell

@@ -3,7 +3,7 @@ use Rattle.push_model.specs.Keyed.{FoundAt}
 use Rattle.push_model.specs.Sessions.{is_attached}
 use Rattle.push_model.specs.Cells.{rows_of}
 use Rattle.push_model.specs.CellSteps.{fetched}
-use Rattle.user_cell.proofs.CellLemmas.{changed_at}
+use Rattle.push_model.proofs.KeyedLemmas.{changed_at}
 use Rattle.user_cell.proofs.cell.UserCell.fetch_rows.Goals as goal
 
 pub returns-clause-cell : goal.returns-clause-cell

@@ -2,7 +2,7 @@ use Rattle.std.proofs.Common.{◌≡◌, true, refl}
 use Rattle.push_model.specs.Keyed.{FoundAt}
 use Rattle.push_model.specs.Sessions.{is_attached}
 use Rattle.push_model.specs.CellSteps.{fetching, is_due}
-use Rattle.user_cell.proofs.CellLemmas.{changed_at, first_at, one_at}
+use Rattle.push_model.proofs.KeyedLemmas.{changed_at, first_at, one_at}
 use Rattle.user_cell.proofs.cell.UserCell.take_check.Goals as goal
 
 pub returns-clause-cell : goal.returns-clause-cell

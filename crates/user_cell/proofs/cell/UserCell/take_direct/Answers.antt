@@ -1,7 +1,7 @@
 use Rattle.std.proofs.Common.{refl}
 use Rattle.push_model.specs.Keyed.{FoundAt}
 use Rattle.push_model.specs.Sessions.{is_attached, taken}
-use Rattle.user_cell.proofs.CellLemmas.{changed_at}
+use Rattle.push_model.proofs.KeyedLemmas.{changed_at}
 use Rattle.user_cell.proofs.cell.UserCell.take_direct.Goals as goal
 
 pub returns-in_ok-page-in-Some-clause-cell : goal.returns-in_ok-page-in-Some-clause-cell

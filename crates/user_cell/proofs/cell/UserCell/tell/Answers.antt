@@ -2,7 +2,7 @@ use Rattle.std.proofs.Common.{refl}
 use Rattle.push_model.specs.Keyed.{FoundAt}
 use Rattle.push_model.specs.Sessions.{is_attached_at}
 use Rattle.push_model.specs.CellSteps.{checked}
-use Rattle.user_cell.proofs.CellLemmas.{changed_at, first_at}
+use Rattle.push_model.proofs.KeyedLemmas.{changed_at, first_at}
 use Rattle.user_cell.proofs.cell.UserCell.tell.Goals as goal
 
 pub returns-clause-cell : goal.returns-clause-cell

@@ -1,0 +1,134 @@
+//! How savers move from stage to stage.
+ghost use Rattle.std.specs.Prelude.{◌≡◌, ◌<◌, find, length};
+ghost use Rattle.push_model.specs.Keyed.{FoundAt};
+ghost use Rattle.push_model.specs.SessionKey.{SessionKey};
+ghost use Rattle.push_model.specs.Advances.{saver_advance, saver_heard_advance, saver_lost_advance, read_advance, read_place, nudged_advance, cleared_advance, all_saved_advance};
+ghost use Rattle.push_model.specs.Cells.{is_saver};
+ghost use Rattle.push_model.specs.CellSteps.{saver_advance_of, savers_moved};
+
+use crate::saver::{Saver, saver_place};
+use push_model::{Advance, Event, NodeId, SessionId, Stage};
+
+/// The saver of that session moves on by the event, if it is there.
+pub fn advance_saver(savers: &mut Vec<Saver>, s: SessionId, event: Event) -> Advance
+    ensures advance { result ≡ saver_advance_of event (find (is_saver s) savers.old.items) }
+    ensures savers { savers.new.items ≡ savers_moved (saver_advance_of event (find (is_saver s) savers.old.items)) s savers.old.items }
+{
+    let Some(place) = saver_place(savers, s) else {
+        return Advance::Absent;
+    };
+    let advance = advance_at(&savers[place], event);
+    move_saver(savers, place, &advance);
+    advance
+}
+
+// what becomes of that saver
+fn advance_at(saver: &Saver, event: Event) -> Advance
+    ensures { result ≡ saver_advance_of event (Some saver.now) }
+{
+    saver_advance(event, saver.has_saved(), saver.stage())
+}
+
+// the saver at that place moves on so
+fn move_saver(savers: &mut Vec<Saver>, place: usize, advance: &Advance)
+    requires { place < length savers.old.items }
+    ensures { (s : SessionKey) → FoundAt (is_saver s) savers.old.items place → savers.new.items ≡ savers_moved advance.now s savers.old.items }
+{
+    match advance {
+        Advance::Moved(stage) => savers[place].go_on(*stage),
+        Advance::End(_) => {
+            savers.remove(place);
+        }
+        Advance::Out(_) | Advance::Absent => {}
+    }
+}
+
+fn saver_advance(event: Event, some_saved: bool, stage: Stage) -> Advance
+    ensures { result ≡ saver_advance event some_saved stage }
+{
+    match event {
+        Event::Heard => heard_advance(stage),
+        Event::Lost => lost_advance(stage),
+        Event::Read(place) => read_advance(place, stage),
+        Event::Nudged(here) => nudged_advance(here, stage),
+        Event::Cleared => cleared_advance(stage),
+        Event::AllSaved => all_saved_advance(some_saved, stage),
+        Event::Direct(_) | Event::Stored | Event::Ended(_) | Event::GiveUp => Advance::Out(stage),
+    }
+}
+
+fn heard_advance(stage: Stage) -> Advance
+    ensures { result ≡ saver_heard_advance stage }
+{
+    match stage {
+        Stage::ToldNudge(here, node, at) => heard_nudge(here, node, at),
+        _ => Advance::Out(stage),
+    }
+}
+
+fn heard_nudge(here: bool, node: NodeId, at: u64) -> Advance
+    ensures { result ≡ saver_heard_advance (Stage.ToldNudge here node at) }
+{
+    if here {
+        Advance::End(200)
+    } else {
+        Advance::Moved(Stage::Clear(node, at))
+    }
+}
+
+fn lost_advance(stage: Stage) -> Advance
+    ensures { result ≡ saver_lost_advance stage }
+{
+    match stage {
+        Stage::Nudge(node, at) | Stage::ToldNudge(_, node, at) => {
+            Advance::Moved(Stage::Clear(node, at))
+        }
+        _ => Advance::Out(stage),
+    }
+}
+
+fn read_advance(place: Option<(NodeId, u64)>, stage: Stage) -> Advance
+    ensures { result ≡ read_advance 200 place stage }
+{
+    match stage {
+        Stage::Reread => read_place(place),
+        _ => Advance::Out(stage),
+    }
+}
+
+fn read_place(place: Option<(NodeId, u64)>) -> Advance
+    ensures { result ≡ read_place 200 place }
+{
+    match place {
+        Some((node, at)) => Advance::Moved(Stage::Nudge(node, at)),
+        None => Advance::End(200),
+    }
+}
+
+fn nudged_advance(here: bool, stage: Stage) -> Advance
+    ensures { result ≡ nudged_advance here stage }
+{
+    match stage {
+        Stage::Nudge(node, at) => Advance::Moved(Stage::ToldNudge(here, node, at)),
+        _ => Advance::Out(stage),
+    }
+}
+
+fn cleared_advance(stage: Stage) -> Advance
+    ensures { result ≡ cleared_advance 200 stage }
+{
+    match stage {
+        Stage::Clear(_, _) => Advance::End(200),
+        _ => Advance::Out(stage),
+    }
+}
+
+fn all_saved_advance(some_saved: bool, stage: Stage) -> Advance
+    ensures { result ≡ all_saved_advance some_saved stage }
+{
+    match stage {
+        Stage::Saving if some_saved => Advance::Moved(Stage::Reread),
+        Stage::Saving => Advance::End(200),
+        _ => Advance::Out(stage),
+    }
+}
