@@ -1,6 +1,9 @@
 //! The command `autopush`: it makes the real streams, makes the top call, and ends with its status.
 #![tactic(auto)]
 
+ghost use Rattle.std.specs.Prelude.{◌≡◌, IfOk, drop};
+ghost use Rattle.std.specs.Vec.Iter.{into_iter_items};
+
 use autopush_main::autopush_replay;
 use push_outside::{Reading, Writing};
 use std::alloc::{AllocError, Global};
@@ -12,13 +15,14 @@ const WRONG_WORDS: u8 = 2;
 /// Memory ran out.
 const NO_MEMORY: u8 = 7;
 
-// The words after the program's name.
-fn words_of(alloc: Global, all: env::Args) -> Result<Vec<String>, AllocError> {
+// the words after the program's name
+fn words_of(alloc: Global, mut all: env::Args) -> Result<Vec<String>, AllocError>
+    ensures { IfOk result (λ words. words.items ≡ drop 1 (into_iter_items all)) }
+{
+    let _ = all.next();
     let mut words = Vec::new(alloc);
-    for (place, word) in all.enumerate() {
-        if place > 0 {
-            words.push(word)?;
-        }
+    for word in all {
+        words.push(word)?;
     }
     Ok(words)
 }
