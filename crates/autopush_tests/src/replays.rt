@@ -51,106 +51,6 @@ fn replay_opened(
     replay(rt, alloc, all.as_str(), status, lines.as_str())
 }
 
-const EMPTY_REPORT: &str =
-    "report users 1 stored 0 held 0 flights 0 unsent 0 orphans 0 waiting 0\n";
-
-#[test]
-fn whole_schedules(rt: HostRuntime) -> Result<(), Fail> {
-    let alloc = rt.alloc();
-    for (schedule, status, written) in [
-        ("", 0, ""),
-        ("tick 1", 4, "refused line 1\n"),
-        (
-            "create 1 1 100\nattach 1 1 100\nregister 1 1 100 5 1ab\n",
-            0,
-            OPENED,
-        ),
-        (
-            "create 1 1 100\nattach 1 1 100\nregister 1 1 100 5 1ab",
-            0,
-            OPENED,
-        ),
-        (
-            "report",
-            0,
-            "report users 0 stored 0 held 0 flights 0 unsent 0 orphans 0 waiting 0\n",
-        ),
-        (
-            "create 1 1 100\ncreate 1 1 900\nattach 1 1 900\n",
-            0,
-            "made\ntaken\nnotclaimed\n",
-        ),
-        ("attach 1 1 100\n", 0, "notclaimed\n"),
-        (
-            "register 1 1 100 5 1ab\ncreate 1 1 100\nregister 1 1 100 5 1ab\n",
-            0,
-            "nosession\nmade\nnosession\n",
-        ),
-        (
-            "direct 1 1\nheard f 1 1\nbegin 1 1 1ab 60 . normal .\n",
-            0,
-            "noflight\nnoflight\nnotoken\n",
-        ),
-        (
-            "create 1 1 100\nattach 1 1 100\nattach 1 1 100\n",
-            0,
-            "made\nattached .\nnotclaimed\n",
-        ),
-    ] {
-        replay(&rt, alloc, schedule, status, written)?;
-    }
-    Ok(())
-}
-
-#[test]
-fn after_the_opening(rt: HostRuntime) -> Result<(), Fail> {
-    let alloc = rt.alloc();
-    for (schedule, status, written) in [
-        ("fly\nreport\n", 4, "refused line 4\n"),
-        ("report\n", 0, EMPTY_REPORT),
-        // A message is begun, given, shown and acknowledged.
-        (
-            "begin 1 1 1ab 60 . normal .\ndirect 1 1\nheard f 1 1\ntake 1 1 100\nack 1 1 100 5 1\nreport\n",
-            0,
-            "begun 1 1 100\nhere\nend 201\npage 1:5:.\nacked direct\nreport users 1 stored 0 held 0 flights 0 unsent 0 orphans 0 waiting 0\n",
-        ),
-        // The same channel again, another with its token, and another token.
-        (
-            "register 1 1 100 5 2ab\nregister 1 1 100 6 1ab\nregister 1 1 100 6 0\nregister 1 1 100 ffffffffffffffffffffffffffffffff ffffffffffffffffffffffffffffffffffffffffffffffff\n",
-            0,
-            "endpoint 1ab\ntokentaken\nendpoint 0\nendpoint ffffffffffffffffffffffffffffffffffffffffffffffff\n",
-        ),
-        // An op in use, an unknown token, and steps at other stages.
-        (
-            "begin 7 1 1ab 60 . normal 00ff\nbegin 7 1 1ab 60 . normal .\nbegin 7 1 2 60 . normal .\nbegin 7 2 2 60 . normal .\nheard f 7 1\ndirect 7 1\ndirect 7 1\nbegin 7 1 1ab 60 . normal .\nheard f 7 1\nheard f 7 1\n",
-            0,
-            "begun 1 1 100\nstage direct\nstage direct\nnotoken\nstage direct\nhere\nstage told\nstage told\nend 201\nnoflight\n",
-        ),
-        // An unknown id, another channel, and an id that was acknowledged.
-        (
-            "begin 1 1 1ab 60 . normal 6869\ndirect 1 1\nack 1 1 100 5 1\ntake 1 1 100\ntake 1 1 100\nack 1 1 100 5 2\nack 1 1 100 6 1\nack 1 1 100 5 1\nack 1 1 100 5 1\nreport\n",
-            0,
-            "begun 1 1 100\nhere\nunknown\npage 1:5:6869\npage\nunknown\nunknown\nacked direct\nunknown\nreport users 1 stored 0 held 0 flights 1 unsent 0 orphans 0 waiting 0\n",
-        ),
-        // Sessions that are not there.
-        (
-            "take 1 1 101\nack 1 1 101 5 1\nregister 1 1 101 5 1ab\n",
-            0,
-            "nosession\nnosession\nnosession\n",
-        ),
-        // Values outside what is opened today.
-        ("begin 1 1 1ab 0 . normal .\n", 4, "refused line 4\n"),
-        ("begin 1 1 1ab 60 t normal .\n", 4, "refused line 4\n"),
-        ("begin 1 1 1ab 60 . high .\n", 4, "refused line 4\n"),
-        ("heard s 1 1 100\n", 4, "refused line 4\n"),
-        ("create 2 1 100\n", 4, "refused line 4\n"),
-        ("create 1 2 100\n", 4, "refused line 4\n"),
-    ] {
-        replay_opened(&rt, alloc, schedule, status, written)?;
-    }
-    Ok(())
-}
-
 #[test]
 fn malformed_lines(rt: HostRuntime) -> Result<(), Fail> {
     let alloc = rt.alloc();
@@ -203,18 +103,6 @@ fn malformed_lines(rt: HostRuntime) -> Result<(), Fail> {
         replay_opened(&rt, alloc, schedule.as_str(), 4, "refused line 4\n")?;
     }
     Ok(())
-}
-
-#[test]
-fn greatest_values(rt: HostRuntime) -> Result<(), Fail> {
-    let alloc = rt.alloc();
-    replay(
-        &rt,
-        alloc,
-        "create 1 1 9223372036854775807\nattach 1 1 9223372036854775807\nregister 1 1 9223372036854775807 0 0\nbegin 18446744073709551615 9223372036854775807 0 2592000 . normal .\nack 1 1 9223372036854775807 0 9223372036854775807\n",
-        0,
-        "made\nattached .\nendpoint 0\nbegun 1 1 9223372036854775807\nunknown\n",
-    )
 }
 
 #[test]

@@ -27,41 +27,6 @@ fn replay(rt: &impl Abort, alloc: Global, schedule: &str, written: &str) -> Resu
     Ok(())
 }
 
-#[test]
-fn each_stage(rt: HostRuntime) -> Result<(), Fail> {
-    let alloc = rt.alloc();
-    for (schedule, written) in [
-        // Held and stored after a lost link: shown twice, acknowledged once.
-        (
-            "begin 1 1 1ab 60 . normal 6869\ndirect 1 1\nlost f 1 1\nstore 1 1\nreread f 1 1\nnudge f 1 1\nheard f 1 1\ntake 1 1 100\ncheck 1 1 100\ntopics 1 1 100\nplains 1 1 100\nack 1 1 100 5 1\nack 1 1 100 5 1\nreport\n",
-            "begun 1 1 100\nhere\nmoved store\nstored\nnames 1 100\nhere\nend 201\npage 1:5:6869\ndue\npage\npage 1:5:6869\nacked direct\nunknown\nreport users 1 stored 0 held 0 flights 0 unsent 0 orphans 0 waiting 0\n",
-        ),
-        // Stored and not yet told of: the session's check covers it, then the flight.
-        (
-            "begin 1 1 1ab 60 . normal 01\nlost f 1 1\nstore 1 1\nreport\ncheck 1 1 100\nreport\ntopics 1 1 100\nplains 1 1 100\nack 1 1 100 5 1\nack 1 1 100 5 1\nreport\n",
-            "begun 1 1 100\nmoved store\nstored\nreport users 1 stored 1 held 0 flights 1 unsent 1 orphans 0 waiting 0\ndue\nreport users 1 stored 1 held 0 flights 1 unsent 1 orphans 0 waiting 0\npage\npage 1:5:01\nacked stored\nunknown\nreport users 1 stored 0 held 0 flights 1 unsent 0 orphans 0 waiting 0\n",
-        ),
-        // Fetches out of their order.
-        (
-            "topics 1 1 100\nplains 1 1 100\ncheck 1 1 100\nplains 1 1 100\ncheck 1 1 100\ntopics 1 1 100\ntopics 1 1 100\nplains 1 1 100\nplains 1 1 100\ncheck 1 1 100\n",
-            "stage idle\nstage idle\ndue\nstage topic\nnotdue\npage\nstage plain\npage\nstage idle\nnotdue\n",
-        ),
-        // Giving up at direct, told and store, and not after.
-        (
-            "begin 1 1 1ab 60 . normal .\ngiveup 1 1\nbegin 1 2 1ab 60 . normal .\ndirect 1 2\ngiveup 1 2\nbegin 1 3 1ab 60 . normal .\nlost f 1 3\ngiveup 1 3\nbegin 1 4 1ab 60 . normal .\nlost f 1 4\nstore 1 4\ngiveup 1 4\nreread f 1 4\ngiveup 1 4\nnudge f 1 4\ngiveup 1 4\nlost f 1 4\ngiveup 1 4\ngiveup 9 9\n",
-            "begun 1 1 100\nend 500\nbegun 2 1 100\nhere\nend 500\nbegun 3 1 100\nmoved store\nend 500\nbegun 4 1 100\nmoved store\nstored\nstage reread\nnames 1 100\nstage nudge\nhere\nstage toldnudge\nmoved clear\nstage clear\nnoflight\n",
-        ),
-        // Steps at other stages.
-        (
-            "begin 1 1 1ab 60 . normal .\nstore 1 1\nreread f 1 1\nnudge f 1 1\nlost f 1 1\nlost f 1 1\ndirect 1 1\nstore 1 1\nstore 1 1\nlost f 1 1\nheard f 1 1\nreread f 1 1\nlost f 1 1\nheard f 1 1\nstore 9 9\nlost f 9 9\nreread f 9 9\nnudge f 9 9\ncheck 1 1 9\ntopics 1 1 9\nplains 1 1 9\n",
-            "begun 1 1 100\nstage direct\nstage direct\nstage direct\nmoved store\nstage store\nstage store\nstored\nstage reread\nstage reread\nstage reread\nnames 1 100\nmoved clear\nstage clear\nnoflight\nnoflight\nnoflight\nnoflight\nnosession\nnosession\nnosession\n",
-        ),
-    ] {
-        replay(&rt, alloc, schedule, written)?;
-    }
-    Ok(())
-}
-
 // Stored messages, each routed to its end.
 fn store_messages(
     schedule: &mut String,
