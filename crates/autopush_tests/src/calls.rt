@@ -79,47 +79,59 @@ fn lists(rt: HostRuntime) -> Result<(), Fail> {
     Ok(())
 }
 
+// Makes the step, and compares the reply's line.
 fn answers(
     rt: &impl Abort,
     alloc: Global,
     cell: &mut UserCell,
-    step: &Step,
+    step: Step,
     line: &str,
 ) -> Result<(), Fail> {
-    let reply = cell.step(alloc, 0, step)?;
+    let reply = cell.step(alloc, 0, &step)?;
     assert_eq!(rt; print_reply(alloc, &reply)?.as_str(), line);
     Ok(())
+}
+
+// Begins a flight, and compares the reply's line.
+fn begins(rt: &impl Abort, alloc: Global, cell: &mut UserCell, op: Op) -> Result<(), Fail> {
+    let message = message(alloc, 1, b"hi")?;
+    let reply = cell.begin(alloc, op, Token([0; 24]), message)?;
+    assert_eq!(rt; print_reply(alloc, &reply)?.as_str(), "begun 1 1 100\n");
+    Ok(())
+}
+
+// A session with a channel.
+fn opened(rt: &impl Abort, alloc: Global, s: SessionId) -> Result<UserCell, Fail> {
+    let mut cell = UserCell::new(alloc, s.uaid);
+    answers(rt, alloc, &mut cell, Step::Create(s), "made\n")?;
+    answers(rt, alloc, &mut cell, Step::Attach(s), "attached .\n")?;
+    let register = Step::Register(s, ChannelId(5), Token([0; 24]));
+    answers(rt, alloc, &mut cell, register, "endpoint 0\n")?;
+    Ok(cell)
+}
+
+fn first_session() -> Result<SessionId, Fail> {
+    let node = NodeId::new(1).ok_or("node 1")?;
+    Ok(SessionId {
+        uaid: Uaid(1),
+        node,
+        at: 100,
+    })
 }
 
 #[test]
 fn a_cell(rt: HostRuntime) -> Result<(), Fail> {
     let alloc = rt.alloc();
-    let node = NodeId::new(1).ok_or("node 1")?;
-    let s = SessionId {
-        uaid: Uaid(1),
-        node,
-        at: 100,
-    };
+    let s = first_session()?;
     let op = Op { pass: 1, k: 1 };
-    let mut cell = UserCell::new(alloc, s.uaid);
-    answers(&rt, alloc, &mut cell, &Step::Create(s), "made\n")?;
-    answers(&rt, alloc, &mut cell, &Step::Attach(s), "attached .\n")?;
-    let token = Token([0; 24]);
+    let mut cell = opened(&rt, alloc, s)?;
+    begins(&rt, alloc, &mut cell, op)?;
+    answers(&rt, alloc, &mut cell, Step::Direct(op), "here\n")?;
     answers(
         &rt,
         alloc,
         &mut cell,
-        &Step::Register(s, ChannelId(5), token),
-        "endpoint 0\n",
-    )?;
-    let reply = cell.begin(alloc, op, token, message(alloc, 1, b"hi")?)?;
-    assert_eq!(rt; print_reply(alloc, &reply)?.as_str(), "begun 1 1 100\n");
-    answers(&rt, alloc, &mut cell, &Step::Direct(op), "here\n")?;
-    answers(
-        &rt,
-        alloc,
-        &mut cell,
-        &Step::TakeDirect(s),
+        Step::TakeDirect(s),
         "page 1:5:6869\n",
     )?;
     assert_eq!(rt; cell.held(), 1);
