@@ -10,6 +10,7 @@ use push_outside::{Got, Source};
 pub enum Chunk {
     /// So many bytes, in the front of the room.
     Bytes(usize),
+    /// The input has ended.
     End,
     /// The source failed, or had nothing too often.
     Lost,

@@ -87,7 +87,9 @@ pub enum Next {
     End,
     /// A line over the limit.
     TooLong,
+    /// The source failed, or had nothing too often.
     Lost,
+    /// Memory ran out.
     NoMemory,
 }
 

@@ -8,9 +8,11 @@ use push_outside::{Put, Sink};
 /// What writing did.
 #[derive(Clone, Copy, Debug)]
 pub enum Written {
+    /// All was taken.
     All,
     /// The sink failed, or took nothing too often.
     Lost,
+    /// Memory ran out.
     NoMemory,
 }
 

@@ -17,10 +17,15 @@ pub const LINES: u32 = 1_000_000;
 /// How a replay ends.
 #[derive(Clone, Copy, Debug)]
 pub enum End {
+    /// The input ended, and each line was answered.
     Done,
+    /// A line was refused.
     Refused,
+    /// Reading failed, or gave nothing too often.
     ReadFault,
+    /// Writing failed, or took nothing too often.
     WriteFault,
+    /// Memory ran out.
     NoMemory,
 }
 

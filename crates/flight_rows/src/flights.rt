@@ -15,8 +15,11 @@ use std::marker::Model;
 /// A flight without its name: the message, the token that it was sent to, and the stage of its routing.
 #[derive(Debug, Drop)]
 pub struct Flight {
+    /// The message on its way.
     pub message: Shared,
+    /// The token that it was sent to.
     pub token: Token,
+    /// The stage at which it begins.
     pub stage: Stage,
 }
 

@@ -69,7 +69,9 @@ impl NodeId {
 /// A message's id: the shard that took it and its number there, from 1 to 2^63 - 1.
 #[derive(Clone, Copy, Debug, PartialEq, Eq)]
 pub struct MsgId {
+    /// The shard that took it.
     pub shard: u8,
+    /// Its number there; a newer message has a greater one.
     pub number: u64,
 }
 
@@ -85,8 +87,11 @@ impl MsgId {
 /// A session: whose it is, the node that serves it, and the moment in milliseconds at which it was made, below 2^63.
 #[derive(Clone, Copy, Debug, PartialEq, Eq)]
 pub struct SessionId {
+    /// Whose session it is.
     pub uaid: Uaid,
+    /// The node that serves it.
     pub node: NodeId,
+    /// The moment in milliseconds at which it was made.
     pub at: u64,
 }
 
@@ -106,7 +111,9 @@ impl Model for SessionId {
 /// A flight, the routing of one message: the number of the pass that began it, and the flight's number there.
 #[derive(Clone, Copy, Debug, PartialEq, Eq)]
 pub struct Op {
+    /// The number of the pass that began it.
     pub pass: u64,
+    /// The flight's number in that pass.
     pub k: u64,
 }
 
