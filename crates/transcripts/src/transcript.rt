@@ -1,4 +1,6 @@
 //! Transcripts: the lines that are sent, each followed by the lines that are to be written.
+ghost use Rattle.std.specs.Prelude.{◌≡◌, ◌↔◌, IsTrue, string_bytes};
+
 use std::alloc::{AllocError, Global};
 use std::io;
 
@@ -33,7 +35,9 @@ impl Transcript {
     }
 
     /// Whether the outcome is what is written down.
-    pub fn came_out(&self, outcome: &Outcome) -> bool {
+    pub fn came_out(&self, outcome: &Outcome) -> bool
+        ensures { IsTrue result ↔ ((outcome.now.status ≡ self.now.status) × (outcome.now.written.items ≡ string_bytes self.now.written)) }
+    {
         outcome.status == self.status
             && outcome.written.as_slice() == self.written.as_str().as_bytes()
     }
