@@ -1,9 +1,8 @@
 -- The numbers of a report, as one cell more is counted.
-use Rattle.std.proofs.Common.{◌≡◌, ℕ, ◌+◌, ◌-◌, ◌^◌, ◌≤◌, min, Bool, true, false, cond, List, [], ◌∷◌, ◌++◌, length, refl, ap, sym, ◌∙◌, arith}
-use Rattle.std.specs.Prelude.{map, fold, sum_by, count_by, is_some}
+use Rattle.std.proofs.Common.{◌≡◌, ℕ, ◌+◌, Bool, true, false, cond, List, [], ◌∷◌, ◌++◌, length, ap, sym, ◌∙◌, arith}
+use Rattle.std.specs.Prelude.{sum_by, count_by, is_some}
 use Rattle.std.specs.Map.{values_of}
 use Rattle.std.proofs.lemmas.List.Sums.{sum_by_push}
-use Rattle.push_model.specs.declared.counts.Counts.{Counts}
 use Rattle.push_model.specs.Cells.{Cell}
 use Rattle.push_model.specs.Covering.{stored_in, held_in, unsent_in, orphans_in, waiting_in}
 use Rattle.push_model.specs.Tallies.{capped}

@@ -1,5 +1,5 @@
 -- Where a replay stands between two turns.
-use Rattle.std.proofs.Common.{◌≡◌, ℕ, zero, suc, ◌+◌, ◌<◌, ◌≤◌, List, [], ◌∷◌, ◌++◌, length, take, drop, Option, Some, None, refl, sym, ap, subst, ◌∙◌, append_assoc, arith, inl, inr, ◌⊎◌}
+use Rattle.std.proofs.Common.{◌≡◌, ℕ, ◌+◌, ◌≤◌, List, [], ◌∷◌, ◌++◌, length, Option, Some, None, refl, sym, ap, subst, ◌∙◌, append_assoc, arith, inl, inr, ◌⊎◌}
 use Rattle.std.specs.Prelude.{IfSome}
 use Rattle.std.specs.List.{AllByRecursion}
 use Rattle.std.specs.Io.KnownBytes.{Consumes, Appends, Keeps}
@@ -13,7 +13,7 @@ use Rattle.push_model.specs.declared.step.Step.{Step}
 use Rattle.schedule_text.specs.Spelling.{spell, InRange}
 use Rattle.schedule_text.specs.Replies.{reply_line}
 use Rattle.autopush_main.specs.Lines.{NoLf, Moves}
-use Rattle.autopush_main.specs.Replay.{beginning, IsLine, AreLines, IsRefused, lines_of, text, world_of, AreAccounted, refusal, ended, IsDone, IsRefusal, IsBroken}
+use Rattle.autopush_main.specs.Replay.{beginning, AreLines, IsRefused, lines_of, text, world_of, AreAccounted, refusal, ended, IsDone, IsRefusal, IsBroken}
 use Rattle.autopush_main.specs.Turns.{Kept, NotTaken, Advances, Finishes, Refuses, Turns, Replays, PieceOfFirst, Cuts, IsCut}
 use Rattle.autopush_main.specs.declared.turn.End.{End}
 use Rattle.autopush_main.specs.declared.turn.End.TheVariants as ends

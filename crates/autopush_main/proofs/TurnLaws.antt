@@ -1,15 +1,14 @@
 -- What a turn does, from what its calls did.
-use Rattle.std.proofs.Common.{◌≡◌, ℕ, zero, suc, ◌+◌, ◌<◌, ◌≤◌, List, [], ◌∷◌, ◌++◌, length, take, drop, Option, Some, None, refl, sym, ap, subst, ◌∙◌, append_assoc, arith, inl, inr}
+use Rattle.std.proofs.Common.{◌≡◌, ℕ, ◌+◌, ◌<◌, ◌≤◌, List, [], ◌∷◌, ◌++◌, length, take, drop, Option, Some, None, refl, sym, ap, subst, ◌∙◌, append_assoc, arith, inl, inr}
 use Rattle.std.specs.Prelude.{IfSome}
-use Rattle.std.specs.Io.KnownBytes.{Consumes, Appends, Keeps}
+use Rattle.std.specs.Io.KnownBytes.{Appends}
 use Rattle.std.proofs.lemmas.List.{append-nil, take-append-drop, length-append, length-take}
 use Rattle.push_model.specs.Worlds.{World, step}
-use Rattle.push_model.specs.declared.step.Step.{Step}
 use Rattle.schedule_text.specs.Spelling.{spell}
 use Rattle.schedule_text.specs.Replies.{reply_line}
 use Rattle.autopush_main.specs.Lines.{NoLf, Moves, MovesAll}
-use Rattle.autopush_main.specs.Replay.{IsLine, AreLines, IsRefused, lines_of, refusal}
-use Rattle.autopush_main.specs.Turns.{lone, Steps, Writes, NotTaken, DoesLine, Kept, Advances, Finishes, Refuses, Turns, Last, DoesLast, RefusesBy, PieceOf, PieceOfFirst, CutsLine, Cuts}
+use Rattle.autopush_main.specs.Replay.{AreLines, IsRefused, lines_of, refusal}
+use Rattle.autopush_main.specs.Turns.{lone, Steps, Writes, NotTaken, DoesLine, Turns, Last, DoesLast, RefusesBy, PieceOf, PieceOfFirst, CutsLine, Cuts}
 use Rattle.autopush_main.specs.declared.turn.End.{End}
 use Rattle.autopush_main.specs.declared.turn.End.TheVariants as ends
 use Rattle.autopush_main.specs.Known.{AppendsFront}

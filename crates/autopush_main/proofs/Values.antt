@@ -1,6 +1,6 @@
 -- Searches and sums over the values of a map's entries.
-use Rattle.std.proofs.Common.{◌≡◌, ℕ, ◌+◌, Bool, true, false, cond, List, [], ◌∷◌, refl, ap, sym}
-use Rattle.std.specs.Prelude.{Option, Some, None, Result, Ok, Err, OnErr, map, find, fold, sum_by, count_by, ◌||◌}
+use Rattle.std.proofs.Common.{◌≡◌, ℕ, ◌+◌, Bool, true, false, cond, List, [], ◌∷◌, refl, ap}
+use Rattle.std.specs.Prelude.{Option, Some, Result, Ok, Err, OnErr, find, fold, sum_by, count_by, ◌||◌}
 use Rattle.std.specs.Option.{option_map}
 use Rattle.std.specs.List.{list_any}
 use Rattle.std.specs.Map.{lookup, set_value, values_of}
@@ -40,3 +40,8 @@ set_value-same t (e ∷ es) c h = same_entry (t e.0) e es (set_value t es c) c (
 pub on_err : {T E P : Type 0} (r : Result T E) → P → OnErr r P
 on_err (Ok x) p = tt
 on_err (Err e) p = p
+
+-- what holds at an `Err` says there what follows of it
+pub err_map : {T E P Q : Type 0} (r : Result T E) → (P → Q) → OnErr r P → OnErr r Q
+err_map (Ok x) f p = tt
+err_map (Err e) f p = f p

@@ -1,5 +1,5 @@
 -- The numbers of a report, cell by cell.
-use Rattle.std.specs.Prelude.{ℕ, ◌+◌, List, length, sum_by, count_by, is_some, if◌then◌else◌}
+use Rattle.std.specs.Prelude.{◌+◌, List, length, sum_by, count_by, is_some, if◌then◌else◌}
 use Rattle.push_model.specs.declared.counts.Counts.{Counts}
 use Rattle.push_model.specs.Cells.{Cell}
 use Rattle.push_model.specs.Covering.{stored_in, held_in, unsent_in, orphans_in, waiting_in}

@@ -4,7 +4,7 @@ ghost use Rattle.std.specs.Option.{option_map, option_copied};
 ghost use Rattle.std.specs.List.{list_any};
 ghost use Rattle.push_model.specs.declared.step.Step.TheVariants.{Attach, Register, Begin};
 ghost use Rattle.push_model.specs.CellSteps.{cell_step, begin, lacks};
-ghost use Rattle.push_model.specs.Kinds.{takes_memory};
+ghost use Rattle.push_model.specs.Kinds.{takes_memory, costs_memory};
 ghost use Rattle.push_model.specs.Worlds.{start, step, made, on_cell, on_flight, is_token_known, has_token_in, has_flight_in, counts, cell_at};
 ghost use Rattle.autopush_main.specs.Shards.{IsNoBegin};
 
@@ -67,10 +67,10 @@ impl Shard {
         }
     }
 
-    /// Makes the step and counts it. `NoMemory` comes only from a step that may take memory, and changes nothing.
+    /// Makes the step and counts it. `NoMemory` comes only in the place of a reply that costs memory, and changes nothing.
     pub fn step(&mut self, alloc: Global, asked: Step) -> Result<Reply, NoMemory>
         ensures ok { IfOk result (λ reply. step self.old asked ≡ (self.new, reply)) }
-        ensures err { OnErr result ((self.new ≡ self.old) × (takes_memory asked ≡ true)) }
+        ensures err { OnErr result ((self.new ≡ self.old) × (takes_memory asked ≡ true) × (costs_memory (step self.old asked).1 ≡ true)) }
     {
         let of_flight = asked.is_of_flight();
         let unkept = asked.begins_unkept();
@@ -81,7 +81,7 @@ impl Shard {
 
     fn make(&mut self, alloc: Global, asked: Step) -> Result<Reply, NoMemory>
         ensures ok { IfOk result (λ reply. made self.old asked ≡ (self.new, reply)) }
-        ensures err { OnErr result ((self.new ≡ self.old) × (takes_memory asked ≡ true)) }
+        ensures err { OnErr result ((self.new ≡ self.old) × (takes_memory asked ≡ true) × (costs_memory (made self.old asked).1 ≡ true)) }
     {
         match asked {
             Step::Begin(op, token, ask) => self.begin(alloc, op, token, ask),
@@ -92,7 +92,7 @@ impl Shard {
     fn make_other(&mut self, alloc: Global, asked: &Step) -> Result<Reply, NoMemory>
         requires { IsNoBegin asked.now }
         ensures ok { IfOk result (λ reply. made self.old asked.now ≡ (self.new, reply)) }
-        ensures err { OnErr result ((self.new ≡ self.old) × (takes_memory asked.now ≡ true)) }
+        ensures err { OnErr result ((self.new ≡ self.old) × (takes_memory asked.now ≡ true) × (costs_memory (made self.old asked.now).1 ≡ true)) }
     {
         match asked {
             Step::Attach(s) => self.attach(alloc, s),
@@ -121,7 +121,7 @@ impl Shard {
 
     fn on_cell(&mut self, alloc: Global, uaid: Uaid, asked: &Step) -> Result<Reply, NoMemory>
         ensures ok { IfOk result (λ reply. on_cell self.old uaid (cell_step self.old.clock asked.now) ≡ (self.new, reply)) }
-        ensures err { OnErr result ((self.new ≡ self.old) × (takes_memory asked.now ≡ true)) }
+        ensures err { OnErr result ((self.new ≡ self.old) × (takes_memory asked.now ≡ true) × (costs_memory (on_cell self.old uaid (cell_step self.old.clock asked.now)).1 ≡ true)) }
     {
         let clock = self.clock;
         match self.cells.get_mut(&uaid.0) {
@@ -151,7 +151,7 @@ impl Shard {
 
     fn attach(&mut self, alloc: Global, s: &SessionId) -> Result<Reply, NoMemory>
         ensures ok { IfOk result (λ reply. made self.old (Attach s.now) ≡ (self.new, reply)) }
-        ensures err { OnErr result (self.new ≡ self.old) }
+        ensures err { OnErr result ((self.new ≡ self.old) × (costs_memory (made self.old (Attach s.now)).1 ≡ true)) }
     {
         if self.is_down(s.node) {
             return Ok(Reply::NodeDown);
@@ -182,7 +182,7 @@ impl Shard {
         token: &Token,
     ) -> Result<Reply, NoMemory>
         ensures ok { IfOk result (λ reply. made self.old (Register s.now chid token.now) ≡ (self.new, reply)) }
-        ensures err { OnErr result (self.new ≡ self.old) }
+        ensures err { OnErr result ((self.new ≡ self.old) × (costs_memory (made self.old (Register s.now chid token.now)).1 ≡ true)) }
     {
         if self.lacks(s, chid) && self.knows_token(token) {
             return Ok(Reply::TokenTaken);
@@ -204,7 +204,7 @@ impl Shard {
 
     fn on_flight(&mut self, alloc: Global, op: Op, asked: &Step) -> Result<Reply, NoMemory>
         ensures ok { IfOk result (λ reply. on_flight self.old op (cell_step self.old.clock asked.now) ≡ (self.new, reply)) }
-        ensures err { OnErr result ((self.new ≡ self.old) × (takes_memory asked.now ≡ true)) }
+        ensures err { OnErr result ((self.new ≡ self.old) × (takes_memory asked.now ≡ true) × (costs_memory (on_flight self.old op (cell_step self.old.clock asked.now)).1 ≡ true)) }
     {
         let Some(cell) = self.flight_cell(op) else {
             return Ok(Reply::NoFlight);
@@ -215,7 +215,7 @@ impl Shard {
 
     fn begin(&mut self, alloc: Global, op: Op, token: Token, ask: Ask) -> Result<Reply, NoMemory>
         ensures ok { IfOk result (λ reply. made self.old (Begin op token ask) ≡ (self.new, reply)) }
-        ensures err { OnErr result (self.new ≡ self.old) }
+        ensures err { OnErr result ((self.new ≡ self.old) × (costs_memory (made self.old (Begin op token ask)).1 ≡ true)) }
     {
         if let Some(cell) = self.flight_cell(op) {
             return Ok(cell.stage_reply(op));
@@ -244,7 +244,7 @@ impl Shard {
     ) -> Result<Reply, NoMemory>
         requires { self.old.next < 2 ^ 63 }
         ensures ok { IfOk result (λ reply. on_cell (record self.old { next = self.old.next + 1 }) uaid (begin op token (record { id = record { shard = self.old.shard; number = self.old.next }; uaid = uaid; chid = chid; ask = ask; accepted = self.old.clock })) ≡ (self.new, reply)) }
-        ensures err { OnErr result (self.new ≡ self.old) }
+        ensures err { OnErr result ((self.new ≡ self.old) × (costs_memory (on_cell (record self.old { next = self.old.next + 1 }) uaid (begin op token (record { id = record { shard = self.old.shard; number = self.old.next }; uaid = uaid; chid = chid; ask = ask; accepted = self.old.clock }))).1 ≡ true)) }
     {
         let message = Message {
             id: MsgId {

@@ -1,5 +1,7 @@
 -- Kinds of steps.
 use Rattle.std.specs.Prelude.{ℕ, ◌==◌, Bool, true, false}
+use Rattle.push_model.specs.declared.reply.Reply.{Reply}
+use Rattle.push_model.specs.declared.reply.Reply.TheVariants.{Made, Attached, Endpoint, Begun, Here, Stored as IsStored, Page}
 use Rattle.push_model.specs.declared.step.Actor.{Actor}
 use Rattle.push_model.specs.declared.step.Actor.TheVariants.{Flight as OfFlight, Saver as OfSaver}
 use Rattle.push_model.specs.declared.step.Step.{Step}
@@ -28,6 +30,17 @@ takes_memory (Lost actor) = false
 takes_memory (TakeCheck s) = false
 takes_memory (Ack s h i) = false
 takes_memory Report = false
+
+-- the replies in whose place want of memory may come
+abbrev pub costs_memory : Reply → Bool
+costs_memory Made = true
+costs_memory (Attached displaced) = true
+costs_memory (Endpoint t) = true
+costs_memory (Begun i place) = true
+costs_memory (Here u) = true
+costs_memory IsStored = true
+costs_memory (Page messages) = true
+costs_memory reply = false
 
 -- the steps of a flight that has begun
 abbrev pub is_of_flight : Step → Bool

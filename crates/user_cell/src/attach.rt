@@ -1,8 +1,9 @@
 //! How users are made, and how sessions come to be attached.
-ghost use Rattle.std.specs.Prelude.{◌≡◌, ◌++◌, ◌∷◌, [], IfOk, OnOk, OnErr, position};
+ghost use Rattle.std.specs.Prelude.{◌≡◌, ◌++◌, ◌∷◌, [], IfOk, OnOk, OnErr, position, true};
 ghost use Rattle.push_model.specs.Keyed.{with_first, IsPlace, FoundAt};
 ghost use Rattle.push_model.specs.Sessions.{new_session, is_attached_at, displaced};
 ghost use Rattle.push_model.specs.Cells.{is_claim};
+ghost use Rattle.push_model.specs.Kinds.{costs_memory};
 ghost use Rattle.push_model.specs.CellSteps.{create, attach};
 
 use crate::cell::UserCell;
@@ -21,7 +22,7 @@ impl UserCell {
     ) -> Result<Reply, NoMemory>
         ensures reply { IfOk result (λ r. r ≡ (create moment s self.old).reply) }
         ensures cell { OnOk result (self.new ≡ (create moment s self.old).cell) }
-        ensures err { OnErr result (self.new ≡ self.old) }
+        ensures err { OnErr result ((self.new ≡ self.old) × (costs_memory (create moment s self.old).reply ≡ true)) }
     {
         if self.user.is_some() {
             return Ok(Reply::Taken);
@@ -41,7 +42,7 @@ impl UserCell {
     pub(crate) fn attach(&mut self, alloc: Global, s: SessionId) -> Result<Reply, NoMemory>
         ensures reply { IfOk result (λ r. r ≡ (attach s self.old).reply) }
         ensures cell { OnOk result (self.new ≡ (attach s self.old).cell) }
-        ensures err { OnErr result (self.new ≡ self.old) }
+        ensures err { OnErr result ((self.new ≡ self.old) × (costs_memory (attach s self.old).reply ≡ true)) }
     {
         let Some(claim) = claim_place(&self.claims, s) else {
             return Ok(Reply::NotClaimed);

@@ -3,7 +3,7 @@ ghost use Rattle.std.specs.Prelude.{◌≡◌, ◌^◌, ◌<◌, IfOk, OnOk, OnE
 ghost use Rattle.std.specs.List.{list_any};
 ghost use Rattle.push_model.specs.Cells.{empty_cell, is_token, channels_of};
 ghost use Rattle.push_model.specs.CellSteps.{cell_step};
-ghost use Rattle.push_model.specs.Kinds.{takes_memory};
+ghost use Rattle.push_model.specs.Kinds.{takes_memory, costs_memory};
 
 use flight_rows::Flights;
 use push_model::{Actor, ChannelId, Claim, NoMemory, Reply, Step, Token, Uaid};
@@ -80,13 +80,13 @@ impl UserCell {
     }
 
     /// Makes a step on this user at that moment, in seconds below 2^62, and gives its reply. A `Begin` is made by
-    /// `begin`, and a `Report` is no step on one user: both reply `NoFlight` here. At `NoMemory`, which comes only where the
-    /// step takes memory, the cell stays as it was.
+    /// `begin`, and a `Report` is no step on one user: both reply `NoFlight` here. `NoMemory` comes only in the place of a
+    /// reply that costs memory, and then the cell stays as it was.
     pub fn step(&mut self, alloc: Global, moment: u64, step: &Step) -> Result<Reply, NoMemory>
         requires { moment < 2 ^ 62 }
         ensures reply { IfOk result (λ r. r ≡ (cell_step moment step.now self.old).reply) }
         ensures cell { OnOk result (self.new ≡ (cell_step moment step.now self.old).cell) }
-        ensures err { OnErr result ((self.new ≡ self.old) × (takes_memory step.now ≡ true)) }
+        ensures err { OnErr result ((self.new ≡ self.old) × (takes_memory step.now ≡ true) × (costs_memory (cell_step moment step.now self.old).reply ≡ true)) }
     {
         match step {
             Step::Create(s) => self.create(alloc, moment, *s),

@@ -1,5 +1,6 @@
 //! How attached sessions are shown messages, and acknowledge them.
-ghost use Rattle.std.specs.Prelude.{◌≡◌, ◌^◌, ◌<◌, IfOk, OnOk, OnErr};
+ghost use Rattle.std.specs.Prelude.{◌≡◌, ◌^◌, ◌<◌, IfOk, OnOk, OnErr, true};
+ghost use Rattle.push_model.specs.Kinds.{costs_memory};
 ghost use Rattle.push_model.specs.CellSteps.{take_direct, ack};
 
 use crate::cell::UserCell;
@@ -19,7 +20,7 @@ impl UserCell {
         requires { moment < 2 ^ 62 }
         ensures reply { IfOk result (λ r. r ≡ (take_direct moment s self.old).reply) }
         ensures cell { OnOk result (self.new ≡ (take_direct moment s self.old).cell) }
-        ensures err { OnErr result (self.new ≡ self.old) }
+        ensures err { OnErr result ((self.new ≡ self.old) × (costs_memory (take_direct moment s self.old).reply ≡ true)) }
     {
         match attached_place(&self.sessions, s) {
             Some(place) => {

@@ -1,5 +1,6 @@
 //! How attached sessions look at the stored rows: the next ten with a topic, then the next ten without.
-ghost use Rattle.std.specs.Prelude.{◌≡◌, ◌<◌, length, IfOk, OnOk, OnErr};
+ghost use Rattle.std.specs.Prelude.{◌≡◌, ◌<◌, length, IfOk, OnOk, OnErr, true};
+ghost use Rattle.push_model.specs.Kinds.{costs_memory};
 ghost use Rattle.push_model.specs.CellSteps.{take_check, fetch_topic, fetch_plain, fetch_page};
 ghost use Rattle.push_model.specs.SessionKey.{SessionKey};
 ghost use Rattle.push_model.specs.Sessions.{Session};
@@ -31,7 +32,7 @@ impl UserCell {
     pub(crate) fn fetch_topic(&mut self, alloc: Global, s: SessionId) -> Result<Reply, NoMemory>
         ensures reply { IfOk result (λ r. r ≡ (fetch_topic s self.old).reply) }
         ensures cell { OnOk result (self.new ≡ (fetch_topic s self.old).cell) }
-        ensures err { OnErr result (self.new ≡ self.old) }
+        ensures err { OnErr result ((self.new ≡ self.old) × (costs_memory (fetch_topic s self.old).reply ≡ true)) }
     {
         let Some(place) = attached_place(&self.sessions, s) else {
             return Ok(Reply::NoSession);
@@ -46,7 +47,7 @@ impl UserCell {
     pub(crate) fn fetch_plain(&mut self, alloc: Global, s: SessionId) -> Result<Reply, NoMemory>
         ensures reply { IfOk result (λ r. r ≡ (fetch_plain s self.old).reply) }
         ensures cell { OnOk result (self.new ≡ (fetch_plain s self.old).cell) }
-        ensures err { OnErr result (self.new ≡ self.old) }
+        ensures err { OnErr result ((self.new ≡ self.old) × (costs_memory (fetch_plain s self.old).reply ≡ true)) }
     {
         let Some(place) = attached_place(&self.sessions, s) else {
             return Ok(Reply::NoSession);

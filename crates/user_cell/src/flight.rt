@@ -1,7 +1,8 @@
 //! Flights: how the messages of application servers find their way.
-ghost use Rattle.std.specs.Prelude.{◌≡◌, ◌^◌, ◌<◌, ◌++◌, ◌∷◌, [], IfOk, OnOk, OnErr, find};
+ghost use Rattle.std.specs.Prelude.{◌≡◌, ◌^◌, ◌<◌, ◌++◌, ◌∷◌, [], ◌==◌, ◌||◌, not, true, is_some, IfOk, OnOk, OnErr, find};
 ghost use Rattle.std.specs.List.{list_any};
-ghost use Rattle.push_model.specs.Cells.{is_flight};
+ghost use Rattle.push_model.specs.Cells.{is_flight, routed_place};
+ghost use Rattle.push_model.specs.Kinds.{costs_memory};
 ghost use Rattle.push_model.specs.CellSteps.{begin, direct, store, flight_step, heard, lost, give_up, reread, nudge};
 ghost use Rattle.push_model.specs.Worlds.{stage_reply};
 
@@ -32,7 +33,7 @@ impl UserCell {
     }
 
     /// Begins the flight of a message to the user's routed session, or into the table; with ttl 0 and no route the
-    /// message goes nowhere. At `NoMemory` the message is dropped, and the cell stays as it was.
+    /// message goes nowhere, and no memory is taken. At `NoMemory` the message is dropped, and the cell stays as it was.
     pub fn begin(
         &mut self,
         alloc: Global,
@@ -42,7 +43,7 @@ impl UserCell {
     ) -> Result<Reply, NoMemory>
         ensures reply { IfOk result (λ r. r ≡ (begin op token message self.old).reply) }
         ensures cell { OnOk result (self.new ≡ (begin op token message self.old).cell) }
-        ensures err { OnErr result (self.new ≡ self.old) }
+        ensures err { OnErr result ((self.new ≡ self.old) × (is_some (routed_place self.old.user) || not (message.ask.terms.ttl == 0) ≡ true) × (costs_memory (begin op token message self.old).reply ≡ true)) }
     {
         let id = message.id;
         match routed_place(&self.user) {
@@ -66,7 +67,7 @@ impl UserCell {
         requires { moment < 2 ^ 62 }
         ensures reply { IfOk result (λ r. r ≡ (direct moment op self.old).reply) }
         ensures cell { OnOk result (self.new ≡ (direct moment op self.old).cell) }
-        ensures err { OnErr result (self.new ≡ self.old) }
+        ensures err { OnErr result ((self.new ≡ self.old) × (costs_memory (direct moment op self.old).reply ≡ true)) }
     {
         let Some(flight) = self.flights.find(op) else {
             return Ok(Reply::NoFlight);
@@ -86,7 +87,7 @@ impl UserCell {
         requires { moment < 2 ^ 62 }
         ensures reply { IfOk result (λ r. r ≡ (store moment op self.old).reply) }
         ensures cell { OnOk result (self.new ≡ (store moment op self.old).cell) }
-        ensures err { OnErr result (self.new ≡ self.old) }
+        ensures err { OnErr result ((self.new ≡ self.old) × (costs_memory (store moment op self.old).reply ≡ true)) }
     {
         let Some(flight) = self.flights.find(op) else {
             return Ok(Reply::NoFlight);

@@ -1,5 +1,6 @@
 //! How attached sessions register channels.
-ghost use Rattle.std.specs.Prelude.{◌≡◌, IfOk, OnOk, OnErr};
+ghost use Rattle.std.specs.Prelude.{◌≡◌, IfOk, OnOk, OnErr, true};
+ghost use Rattle.push_model.specs.Kinds.{costs_memory};
 ghost use Rattle.push_model.specs.CellSteps.{register, lacks};
 
 use crate::cell::UserCell;
@@ -25,7 +26,7 @@ impl UserCell {
     ) -> Result<Reply, NoMemory>
         ensures reply { IfOk result (λ r. r ≡ (register s chid token self.old).reply) }
         ensures cell { OnOk result (self.new ≡ (register s chid token self.old).cell) }
-        ensures err { OnErr result (self.new ≡ self.old) }
+        ensures err { OnErr result ((self.new ≡ self.old) × (costs_memory (register s chid token self.old).reply ≡ true)) }
     {
         if attached_place(&self.sessions, s).is_none() {
             return Ok(Reply::NoSession);

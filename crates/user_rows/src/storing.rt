@@ -20,7 +20,7 @@ pub enum Storing {
 }
 
 /// Stores the flight's message at that moment, in seconds below 2^62, unless that is refused, and says what happens to
-/// the flight.
+/// the flight. `NoMemory` comes only where the message is to become a row, and changes nothing.
 pub fn store_message(
     user: &mut Option<User>,
     flight: &FlightRow,
@@ -29,7 +29,7 @@ pub fn store_message(
     requires { moment < 2 ^ 62 }
     ensures event { IfOk result (λ e. e ≡ storing_event (storing_of moment flight.now user.old)) }
     ensures user { OnOk result (user.new ≡ kept_by (storing_of moment flight.now user.old) flight.now.message user.old) }
-    ensures err { OnErr result (user.new ≡ user.old) }
+    ensures err { OnErr result ((user.new ≡ user.old) × (storing_of moment flight.now user.old ≡ Storing.Joins)) }
 {
     match storing_of(user, flight, moment) {
         Storing::Ends(code) => Ok(Event::Ended(code)),

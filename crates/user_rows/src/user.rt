@@ -1,5 +1,5 @@
 //! A user: the route row, the channels and the stored rows.
-ghost use Rattle.std.specs.Prelude.{◌≡◌, ◌&&◌, ◌++◌, ◌∷◌, [], position, map, OnOk, OnErr};
+ghost use Rattle.std.specs.Prelude.{◌≡◌, ◌&&◌, ◌++◌, ◌∷◌, [], position, map, is_some, true, OnOk, OnErr};
 ghost use Rattle.std.specs.List.{list_any};
 ghost use Rattle.push_model.specs.Keyed.{without_first, IsPlace};
 ghost use Rattle.push_model.specs.Cells.{is_channel, is_token, is_row, channels_of, rows_of, place_of, routed_place, is_routed_to, unmarked_row, unmarked_for};
@@ -158,10 +158,10 @@ pub fn routed_place(user: &Option<User>) -> Option<(NodeId, u64)>
     }
 }
 
-/// Adds a channel as the last, where there is a user.
+/// Adds a channel as the last, where there is a user; where there is none it takes no memory.
 pub fn add_channel(user: &mut Option<User>, channel: Channel) -> Result<(), NoMemory>
     ensures ok { OnOk result (user.new ≡ with_channel channel.chid channel.token user.old) }
-    ensures err { OnErr result (user.new ≡ user.old) }
+    ensures err { OnErr result ((user.new ≡ user.old) × (is_some user.old ≡ true)) }
 {
     match user {
         Some(user) => user.add_channel(channel),

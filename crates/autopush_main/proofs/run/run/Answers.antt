@@ -1,4 +1,4 @@
-use Rattle.std.proofs.Common.{arith, rules}
+use Rattle.std.proofs.Common.{arith}
 use Rattle.autopush_main.proofs.Progress.{goes_on, ends_so, accounts}
 use Rattle.autopush_main.proofs.run.run.Goals as goal
 
