@@ -128,7 +128,7 @@ AllTake (v ∷ vs) = ((line : List ℕ) (s : Step) → bytes_eq (first_word line
 verbs_take : AllTake verbs
 unfolding create_at attach_at register_at begin_at direct_at store_at give_up_at reread_at nudge_at heard_at lost_at check_at topics_at plains_at take_at ack_at report_at
 verbs_take =
-    (takes create_line, (takes attach_line, (takes register_line, (takes begin_line, (takes direct_line, (takes store_line, (takes give_up_line, (takes reread_line, (takes nudge_line, (takes heard_line, (takes lost_line, (takes check_line, (takes topics_line, (takes plains_line, (takes take_line, (takes ack_line, (takes report_line, tt)))))))))))))))))
+    (takes begin_line, (takes create_line, (takes attach_line, (takes register_line, (takes direct_line, (takes store_line, (takes give_up_line, (takes reread_line, (takes nudge_line, (takes heard_line, (takes lost_line, (takes check_line, (takes topics_line, (takes plains_line, (takes take_line, (takes ack_line, (takes report_line, tt)))))))))))))))))
 
 verb_takes : (vs : List (List ℕ × (List ℕ → Option Step))) → AllTake vs → (line : List ℕ) (s : Step) → by_verb vs (first_word line) (after_word line) ≡ Some s → Is line s
 verb_takes [] all line s e = absurd cc

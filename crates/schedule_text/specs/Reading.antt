@@ -41,9 +41,14 @@ Gives view (Ok x) read = read ≡ Some (view x)
 Gives view (Err e) read = Fails e read
 
 -- The same of a function that takes its value from the front, and leaves the rest.
-abbrev pub Takes : {X Y : Type 0} → (X → Y) → Result X LineFault → Option (Y × List ℕ) → List ℕ → Type 0
-Takes view (Ok x) read rest = read ≡ Some (view x, rest)
-Takes view (Err e) read rest = Fails e read
+abbrev pub TakesUnless : {X Y : Type 0} → (X → Y) → Result X LineFault → Option (Y × List ℕ) → List ℕ → Type 0
+TakesUnless view (Ok x) read rest = read ≡ Some (view x, rest)
+TakesUnless view (Err e) read rest = Fails e read
+
+-- The same of one that wants no memory.
+abbrev pub Takes : {X Y : Type 0} → (X → Y) → Option X → Option (Y × List ℕ) → List ℕ → Type 0
+Takes view (Some x) read rest = read ≡ Some (view x, rest)
+Takes view None read rest = read ≡ None
 
 -- ---- words
 
@@ -267,14 +272,16 @@ abbrev pub by_verb : List (List ℕ × (List ℕ → Option Step)) → List ℕ 
 by_verb [] w bytes = None
 by_verb (line ∷ lines) w bytes = if bytes_eq w line.0 then line.1 bytes else by_verb lines w bytes
 
--- each verb, and how what stands behind it is read
+-- each verb, and how what stands behind it is read; the first alone has a payload
+abbrev pub other_verbs : List (List ℕ × (List ℕ → Option Step))
+other_verbs =
+    (codes "create", create_at) ∷ (codes "attach", attach_at) ∷ (codes "register", register_at) ∷ (codes "direct", direct_at)
+    ∷ (codes "store", store_at) ∷ (codes "giveup", give_up_at) ∷ (codes "reread", reread_at) ∷ (codes "nudge", nudge_at)
+    ∷ (codes "heard", heard_at) ∷ (codes "lost", lost_at) ∷ (codes "check", check_at) ∷ (codes "topics", topics_at)
+    ∷ (codes "plains", plains_at) ∷ (codes "take", take_at) ∷ (codes "ack", ack_at) ∷ (codes "report", report_at) ∷ []
+
 abbrev pub verbs : List (List ℕ × (List ℕ → Option Step))
-verbs =
-    (codes "create", create_at) ∷ (codes "attach", attach_at) ∷ (codes "register", register_at) ∷ (codes "begin", begin_at)
-    ∷ (codes "direct", direct_at) ∷ (codes "store", store_at) ∷ (codes "giveup", give_up_at) ∷ (codes "reread", reread_at)
-    ∷ (codes "nudge", nudge_at) ∷ (codes "heard", heard_at) ∷ (codes "lost", lost_at) ∷ (codes "check", check_at)
-    ∷ (codes "topics", topics_at) ∷ (codes "plains", plains_at) ∷ (codes "take", take_at) ∷ (codes "ack", ack_at)
-    ∷ (codes "report", report_at) ∷ []
+verbs = (codes "begin", begin_at) ∷ other_verbs
 
 -- the step of a line of the whole grammar
 unfoldable pub whole_line_at : List ℕ → Option Step
@@ -285,3 +292,9 @@ unfoldable pub line_at : List ℕ → Option Step
 line_at line = do
   s ← whole_line_at line
   if is_opened s then Some s else None
+
+-- want of memory comes only from a line that begins a flight
+abbrev pub IsOfBegin : Result Step LineFault → List ℕ → Type 0
+IsOfBegin (Ok s) line = Unit {0}
+IsOfBegin (Err Outside) line = Unit {0}
+IsOfBegin (Err NoMemory) line = first_word line ≡ codes "begin"

@@ -91,15 +91,15 @@ pub fn token_value(word: &[u8]) -> Option<Token>
 
 /// The topic, or none for a dot. It takes no memory.
 #[tactic(auto, unfolding(crate::specs::Reading::topic_value))]
-pub fn topic_value(word: &[u8]) -> Result<Option<Topic>, LineFault>
-    ensures { Gives (λ t. t) result (topic_value word.now) }
+pub fn topic_value(word: &[u8]) -> Option<Option<Topic>>
+    ensures { result ≡ topic_value word.now }
 {
     if word == b".".as_slice() {
-        return Ok(None);
+        return Some(None);
     }
     match Topic::new(word) {
-        Some(topic) => Ok(Some(topic)),
-        None => Err(LineFault::Outside),
+        Some(topic) => Some(Some(topic)),
+        None => None,
     }
 }
 

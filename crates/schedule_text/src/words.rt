@@ -1,6 +1,6 @@
 //! A line, read word by word from the left.
-ghost use Rattle.std.specs.Prelude.{◌≡◌, ◌≤◌, IfOk, length, position};
-ghost use Rattle.schedule_text.specs.Reading.{Gives, Takes, is_space, first_word, after_word, word_at, hex_at, decimal_at, token_at, topic_at, urgency_at, payload_at, session_at, op_at, channel_at, id_at, actor_at, ask_at, ask_of, at_end};
+ghost use Rattle.std.specs.Prelude.{◌≡◌, ◌≤◌, IfOk, IfSome, length, position};
+ghost use Rattle.schedule_text.specs.Reading.{Takes, TakesUnless, both, is_space, first_word, after_word, word_at, hex_at, decimal_at, token_at, topic_at, urgency_at, payload_at, session_at, op_at, channel_at, id_at, actor_at, ask_at, ask_of, at_end};
 
 use crate::fault::LineFault;
 use crate::values;
@@ -32,7 +32,7 @@ fn first_space(bytes: &[u8]) -> Option<usize>
 }
 
 /// The words that are still to be read. Contracts see the bytes from the space in front of them on. Each method reads
-/// the next words, or answers `Outside` where they are not such words, and nothing is to be read after that.
+/// the next words, or answers none where they are not such words, and nothing is to be read after that.
 #[derive(Drop)]
 pub struct Words<'a> {
     rest: &'a [u8],
@@ -57,144 +57,153 @@ impl<'a> Words<'a> {
     }
 
     /// The step, where no word is left.
-    pub fn end(self, step: Step) -> Result<Step, LineFault>
-        ensures { Gives (λ x. x) result (at_end self.entry step) }
+    pub fn end(self, step: Step) -> Option<Step>
+        ensures { result ≡ at_end self.entry step }
     {
         if self.rest.is_empty() {
-            Ok(step)
+            Some(step)
         } else {
-            Err(LineFault::Outside)
+            None
         }
     }
 
     #[tactic(auto, unfolding(crate::specs::Reading::word_at))]
-    fn word(&mut self) -> Result<&'a [u8], LineFault>
+    fn word(&mut self) -> Option<&'a [u8]>
         ensures { Takes (λ w. w.now) result (word_at self.old) self.new }
     {
         match self.rest {
             [b' ', rest @ ..] => {
                 let (word, rest) = cut(rest);
                 self.rest = rest;
-                Ok(word)
+                Some(word)
             }
-            _ => Err(LineFault::Outside),
+            _ => None,
         }
     }
 
     #[tactic(auto, unfolding(crate::specs::Reading::hex_at))]
-    fn hex(&mut self) -> Result<u128, LineFault>
+    fn hex(&mut self) -> Option<u128>
         ensures { Takes (λ n. n) result (hex_at self.old) self.new }
     {
-        values::hex_value(self.word()?).ok_or(LineFault::Outside)
+        values::hex_value(self.word()?)
     }
 
     #[tactic(auto, unfolding(crate::specs::Reading::decimal_at))]
-    fn decimal(&mut self, low: u64, high: u64) -> Result<u64, LineFault>
+    fn decimal(&mut self, low: u64, high: u64) -> Option<u64>
         ensures value { Takes (λ n. n) result (decimal_at low high self.old) self.new }
-        ensures low { IfOk result (λ n. low ≤ n) }
-        ensures high { IfOk result (λ n. n ≤ high) }
+        ensures low { IfSome result (λ n. low ≤ n) }
+        ensures high { IfSome result (λ n. n ≤ high) }
     {
-        values::decimal_value(low, high, self.word()?).ok_or(LineFault::Outside)
+        values::decimal_value(low, high, self.word()?)
     }
 
-    fn node(&mut self) -> Result<NodeId, LineFault>
+    fn node(&mut self) -> Option<NodeId>
         ensures { Takes (λ n. n) result (decimal_at 1 8 self.old) self.new }
     {
         let number = self.decimal(1, 8)?;
-        NodeId::new(number as u8).ok_or(LineFault::Outside)
+        NodeId::new(number as u8)
     }
 
     /// A token.
     #[tactic(auto, unfolding(crate::specs::Reading::token_at))]
-    pub fn token(&mut self) -> Result<Token, LineFault>
+    pub fn token(&mut self) -> Option<Token>
         ensures { Takes (λ t. t) result (token_at self.old) self.new }
     {
-        values::token_value(self.word()?).ok_or(LineFault::Outside)
+        values::token_value(self.word()?)
     }
 
     #[tactic(auto, unfolding(crate::specs::Reading::topic_at))]
-    fn topic(&mut self) -> Result<Option<Topic>, LineFault>
+    fn topic(&mut self) -> Option<Option<Topic>>
         ensures { Takes (λ t. t) result (topic_at self.old) self.new }
     {
         values::topic_value(self.word()?)
     }
 
     #[tactic(auto, unfolding(crate::specs::Reading::urgency_at))]
-    fn urgency(&mut self) -> Result<Urgency, LineFault>
+    fn urgency(&mut self) -> Option<Urgency>
         ensures { Takes (λ u. u) result (urgency_at self.old) self.new }
     {
-        values::urgency_value(self.word()?).ok_or(LineFault::Outside)
+        values::urgency_value(self.word()?)
     }
 
     #[tactic(auto, unfolding(crate::specs::Reading::payload_at))]
     fn payload(&mut self, alloc: Global) -> Result<Blob, LineFault>
-        ensures value { Takes (λ p. p) result (payload_at self.old) self.new }
+        ensures value { TakesUnless (λ p. p) result (payload_at self.old) self.new }
         ensures short { IfOk result (λ p. length p ≤ 4096) }
     {
-        values::payload_value(alloc, self.word()?)
+        let word = self.word().ok_or(LineFault::Outside)?;
+        values::payload_value(alloc, word)
     }
 
     /// A user, a node and a moment.
     #[tactic(auto, unfolding(crate::specs::Reading::session_at))]
-    pub fn session(&mut self) -> Result<SessionId, LineFault>
+    pub fn session(&mut self) -> Option<SessionId>
         ensures { Takes (λ s. s) result (session_at self.old) self.new }
     {
         let uaid = Uaid(self.hex()?);
         let node = self.node()?;
         let at = self.decimal(0, LAST)?;
-        Ok(SessionId { uaid, node, at })
+        Some(SessionId { uaid, node, at })
     }
 
     /// The number of a pass, and that of a flight there.
     #[tactic(auto, unfolding(crate::specs::Reading::op_at))]
-    pub fn op(&mut self) -> Result<Op, LineFault>
+    pub fn op(&mut self) -> Option<Op>
         ensures { Takes (λ o. o) result (op_at self.old) self.new }
     {
         let pass = self.decimal(0, u64::MAX)?;
         let k = self.decimal(0, LAST)?;
-        Ok(Op { pass, k })
+        Some(Op { pass, k })
     }
 
     /// A channel.
     #[tactic(auto, unfolding(crate::specs::Reading::channel_at))]
-    pub fn channel(&mut self) -> Result<ChannelId, LineFault>
+    pub fn channel(&mut self) -> Option<ChannelId>
         ensures { Takes (λ h. h) result (channel_at self.old) self.new }
     {
-        Ok(ChannelId(self.hex()?))
+        Some(ChannelId(self.hex()?))
     }
 
     /// The id of a message of the shard 0.
     #[tactic(auto, unfolding(crate::specs::Reading::id_at))]
-    pub fn id(&mut self) -> Result<MsgId, LineFault>
+    pub fn id(&mut self) -> Option<MsgId>
         ensures { Takes (λ i. i) result (id_at self.old) self.new }
     {
         let number = self.decimal(1, LAST)?;
-        Ok(MsgId { shard: 0, number })
+        Some(MsgId { shard: 0, number })
     }
 
     /// `f` and a flight, or `s` and the session of a saver.
     #[tactic(auto, unfolding(crate::specs::Reading::actor_at))]
-    pub fn actor(&mut self) -> Result<Actor, LineFault>
+    pub fn actor(&mut self) -> Option<Actor>
         ensures { Takes (λ a. a) result (actor_at self.old) self.new }
     {
         let tag = self.word()?;
         if tag == b"f".as_slice() {
-            Ok(Actor::Flight(self.op()?))
+            Some(Actor::Flight(self.op()?))
         } else if tag == b"s".as_slice() {
-            Ok(Actor::Saver(self.session()?))
+            Some(Actor::Saver(self.session()?))
         } else {
-            Err(LineFault::Outside)
+            None
         }
+    }
+
+    fn terms(&mut self) -> Option<(u32, Option<Topic>, Urgency)>
+        ensures value { Takes (λ x. (x.0, (x.1, x.2))) result (both (decimal_at 0 2592000) (both topic_at urgency_at) self.old) self.new }
+        ensures kept { IfSome result (λ x. x.0 ≤ 2592000) }
+    {
+        let ttl = self.decimal(0, 2_592_000)? as u32;
+        let topic = self.topic()?;
+        let urgency = self.urgency()?;
+        Some((ttl, topic, urgency))
     }
 
     /// The ttl, the topic, the urgency and the payload of an ask. Only the payload takes memory.
     #[tactic(auto, unfolding(crate::specs::Reading::ask_at))]
     pub fn ask(&mut self, alloc: Global) -> Result<Ask, LineFault>
-        ensures { Takes (λ a. a) result (ask_at self.old) self.new }
+        ensures { TakesUnless (λ a. a) result (ask_at self.old) self.new }
     {
-        let ttl = self.decimal(0, 2_592_000)? as u32;
-        let topic = self.topic()?;
-        let urgency = self.urgency()?;
+        let (ttl, topic, urgency) = self.terms().ok_or(LineFault::Outside)?;
         let payload = self.payload(alloc)?;
         Ok(ask_of(alloc, ttl, topic, urgency, payload))
     }
