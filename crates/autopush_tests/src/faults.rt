@@ -1,5 +1,6 @@
 //! Sources and sinks that fail or have nothing to do at one call.
 
+use crate::support::replay_words;
 use autopush_main::autopush_replay;
 use push_outside::{ListSink, ListSource, Sink, Source, SureSink, SureSource};
 use std::alloc::{AllocError, Global};
@@ -9,12 +10,6 @@ use std::test::Fail;
 const SCHEDULE: &[u8] = b"create 1 1 100\nattach 1 1 100\nregister 1 1 100 5 1ab\nfly\n";
 
 const WRITTEN: &[u8] = b"made\nattached .\nendpoint 1ab\nrefused line 4\n";
-
-fn replay_words(alloc: Global) -> Result<Vec<String>, AllocError> {
-    let mut words = Vec::new(alloc);
-    words.push(String::from_str(alloc, "replay")?)?;
-    Ok(words)
-}
 
 fn one(alloc: Global, number: u64) -> Result<Vec<u64>, AllocError> {
     let mut numbers = Vec::new(alloc);

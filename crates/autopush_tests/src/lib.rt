@@ -11,3 +11,5 @@ mod long;
 mod replays;
 #[cfg(test)]
 mod stored;
+#[cfg(test)]
+mod support;

@@ -1,19 +1,12 @@
 //! Schedules that reach a limit.
 
+use crate::support::{OPENING, replay_words};
 use autopush_main::autopush_replay;
 use push_outside::{SureSink, SureSource};
 use std::alloc::{AllocError, Global};
 use std::fmt::Write;
 use std::process::Abort;
 use std::test::Fail;
-
-const OPENING: &str = "create 1 1 100\nattach 1 1 100\nregister 1 1 100 5 1ab\n";
-
-fn replay_words(alloc: Global) -> Result<Vec<String>, AllocError> {
-    let mut words = Vec::new(alloc);
-    words.push(String::from_str(alloc, "replay")?)?;
-    Ok(words)
-}
 
 // Replays the schedule, and compares the status and the last lines written.
 fn ends(

@@ -1,16 +1,11 @@
 //! Schedules, what a replay of each writes, and its status.
 
+use crate::support::{OPENED, OPENING, replay_words};
 use autopush_main::autopush_replay;
 use push_outside::{SureSink, SureSource};
-use std::alloc::{AllocError, Global};
+use std::alloc::Global;
 use std::process::Abort;
 use std::test::Fail;
-
-fn replay_words(alloc: Global) -> Result<Vec<String>, AllocError> {
-    let mut words = Vec::new(alloc);
-    words.push(String::from_str(alloc, "replay")?)?;
-    Ok(words)
-}
 
 // Replays the schedule, and compares the status and what was written.
 fn replay(
@@ -31,10 +26,6 @@ fn replay(
     );
     Ok(())
 }
-
-const OPENING: &str = "create 1 1 100\nattach 1 1 100\nregister 1 1 100 5 1ab\n";
-
-const OPENED: &str = "made\nattached .\nendpoint 1ab\n";
 
 // The same after the three lines that open a session with a channel.
 fn replay_opened(

@@ -1,5 +1,6 @@
 //! Schedules of the stored path.
 
+use crate::support::{OPENED, OPENING, replay_words};
 use autopush_main::autopush_replay;
 use push_outside::{SureSink, SureSource};
 use std::alloc::{AllocError, Global};
@@ -7,14 +8,9 @@ use std::fmt::Write;
 use std::process::Abort;
 use std::test::Fail;
 
-const OPENING: &str = "create 1 1 100\nattach 1 1 100\nregister 1 1 100 5 1ab\n";
-
-const OPENED: &str = "made\nattached .\nendpoint 1ab\n";
-
 // Replays the opening and the schedule, and compares all that was written.
 fn replay(rt: &impl Abort, alloc: Global, schedule: &str, written: &str) -> Result<(), Fail> {
-    let mut words = Vec::new(alloc);
-    words.push(String::from_str(alloc, "replay")?)?;
+    let words = replay_words(alloc)?;
     let lines = format!(in alloc; "{OPENING}{schedule}")?;
     let mut input = SureSource::new(Vec::from_slice(alloc, lines.as_bytes())?);
     let mut output = SureSink::new(alloc);
