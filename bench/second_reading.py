@@ -1,8 +1,7 @@
 #!/usr/bin/env python3
 """A second reading of docs/FORMATS.md: the replies to random schedules, worked out here, against those of the program.
 
-The proofs say that the program is its definitions. This asks whether the definitions are what the page says, as one who
-knows the page alone understands it. It runs the program that `rt run` built; ./replay builds it. Usage:
+The proofs say that the program is its definitions. This asks whether the definitions are what the page says. It runs the program that `rt run` built; ./replay builds it. Usage:
 second_reading.py [SCHEDULES [LINES [SEED]]]
 """
 import pathlib
