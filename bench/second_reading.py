@@ -1,8 +1,8 @@
 #!/usr/bin/env python3
 """A second reading of docs/FORMATS.md: the replies to random schedules, worked out here, against those of the program.
 
-The proofs say that the program is its definitions. This asks whether the definitions are what the page says. It runs the program that `rt run` built; ./replay builds it. Usage:
-second_reading.py [SCHEDULES [LINES [SEED]]]
+The proofs say that the program is its definitions. This asks whether the definitions are what the page says. It runs the
+program that `rt run` built; ./replay builds it. Usage: second_reading.py [SCHEDULES [LINES [SEED]]]
 """
 import pathlib
 import random
