@@ -123,7 +123,7 @@ fn first_session() -> Result<SessionId, Fail> {
 fn a_cell(rt: HostRuntime) -> Result<(), Fail> {
     let alloc = rt.alloc();
     let s = first_session()?;
-    let op = Op { pass: 1, k: 1 };
+    let op = Op { pass: 1, number: 1 };
     let mut cell = opened(&rt, alloc, s)?;
     begins(&rt, alloc, &mut cell, op)?;
     answers(&rt, alloc, &mut cell, Step::Direct(op), "here\n")?;

@@ -162,7 +162,7 @@ unfoldable pub session_at : List ℕ → Option (SessionKey × List ℕ)
 session_at bytes = made_at session_of (both hex_at (both (decimal_at 1 8) (decimal_at 0 (2 ^ 63 - 1)))) bytes
 
 abbrev pub op_of : ℕ × ℕ → Op
-op_of x = record { pass = x.0; k = x.1 }
+op_of x = record { pass = x.0; number = x.1 }
 
 unfoldable pub op_at : List ℕ → Option (Op × List ℕ)
 op_at bytes = made_at op_of (both (decimal_at 0 (2 ^ 64 - 1)) (decimal_at 0 (2 ^ 63 - 1))) bytes

@@ -23,7 +23,7 @@ abbrev pub session_words : SessionKey → List ℕ
 session_words s = word (hex s.uaid.0) ++ (word (decimal s.node) ++ word (decimal s.at))
 
 abbrev pub op_words : Op → List ℕ
-op_words o = word (decimal o.pass) ++ word (decimal o.k)
+op_words o = word (decimal o.pass) ++ word (decimal o.number)
 
 abbrev pub actor_words : Actor → List ℕ
 actor_words (Flight o) = word (codes "f") ++ op_words o
@@ -65,7 +65,7 @@ pub record IsSession (s : SessionKey) : Type 0 where
 
 pub record IsOp (o : Op) : Type 0 where
   pub pass : o.pass < 2 ^ 64
-  pub k : o.k < 2 ^ 63
+  pub number : o.number < 2 ^ 63
 
 abbrev pub IsActor : Actor → Type 0
 IsActor (Flight o) = IsOp o

@@ -42,7 +42,7 @@ impl fmt::Display for OpWords {
     ghost output = { λ w. Some (op_words w.0) };
 
     fn fmt<W: fmt::Write>(&self, f: &mut fmt::Formatter<W>) -> fmt::Result {
-        write!(f, " {} {}", self.0.pass, self.0.k)
+        write!(f, " {} {}", self.0.pass, self.0.number)
     }
 }
 

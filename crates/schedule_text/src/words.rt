@@ -152,8 +152,8 @@ impl<'a> Words<'a> {
         ensures { Takes (λ o. o) result (op_at self.old) self.new }
     {
         let pass = self.decimal(0, u64::MAX)?;
-        let k = self.decimal(0, LAST)?;
-        Some(Op { pass, k })
+        let number = self.decimal(0, LAST)?;
+        Some(Op { pass, number })
     }
 
     /// A channel.
