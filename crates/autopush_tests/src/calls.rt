@@ -4,7 +4,7 @@ use push_model::{
     Ask, Blob, ChannelId, Coding, IdList, Message, MsgId, NodeId, Op, Pages, SessionId, Shared,
     Step, Terms, Text, Token, Topic, Uaid, Urgency,
 };
-use schedule_text::{LineFault, print_reply, print_step, read_line};
+use schedule_text::print_reply;
 use std::alloc::Global;
 use std::process::Abort;
 use std::test::Fail;
@@ -136,26 +136,5 @@ fn a_cell(rt: HostRuntime) -> Result<(), Fail> {
     )?;
     assert_eq!(rt; cell.held(), 1);
     assert_eq!(rt; cell.flights(), 1);
-    Ok(())
-}
-
-#[test]
-fn lines(rt: HostRuntime) -> Result<(), Fail> {
-    let alloc = rt.alloc();
-    for line in [
-        "create 1 1 100",
-        "attach 1 1 100",
-        "register 1 1 100 5 1ab",
-        "begin 1 1 1ab 60 . normal 6869",
-        "direct 1 1",
-        "heard f 1 1",
-        "take 1 1 100",
-        "ack 1 1 100 5 1",
-        "report",
-    ] {
-        let step = read_line(alloc, line.as_bytes())?;
-        assert_eq!(rt; print_step(alloc, &step)?.as_str(), line);
-    }
-    assert!(rt; matches!(read_line(alloc, b"tick 1"), Err(LineFault::Outside)));
     Ok(())
 }

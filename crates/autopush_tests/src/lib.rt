@@ -8,8 +8,12 @@ mod faults;
 #[cfg(test)]
 mod long;
 #[cfg(test)]
-mod replays;
-#[cfg(test)]
 mod stored;
 #[cfg(test)]
+mod streams;
+#[cfg(test)]
 mod support;
+#[cfg(test)]
+mod texts;
+#[cfg(test)]
+mod words;

@@ -13,6 +13,3 @@ mod std_io;
 pub use sink::{ListSink, Put, Sink, SureSink};
 pub use source::{Got, ListSource, Source, SureSource};
 pub use std_io::{Reading, Writing};
-
-#[cfg(test)]
-mod tests;

@@ -25,7 +25,7 @@ unfolding op_at
 op_field = made_field (both_fields (decimal_field 0 (2 ^ 64 - 1) (omega arith)) (decimal_field 0 (2 ^ 63 - 1) (omega arith))) (record {
   spells = λ x. refl;
   ranges = λ x h. record { pass = omega (arith, h.0.1); number = omega (arith, h.1.1) };
-  parts = λ o h. ((o.pass, o.number), refl, ((omega arith, omega (arith, h.pass)), (omega arith, omega (arith, h.k))));
+  parts = λ o h. ((o.pass, o.number), refl, ((omega arith, omega (arith, h.pass)), (omega arith, omega (arith, h.number))));
 })
 
 pub channel_field : Field channel_at (λ h. word (hex h.0)) IsChannel

@@ -18,6 +18,3 @@ pub use fault::LineFault;
 pub use line::read_line;
 pub use print::print_step;
 pub use reply::print_reply;
-
-#[cfg(test)]
-mod tests;

@@ -1,19 +1,22 @@
-use super::*;
+//! Lines that are read, and printed again; lines that are refused; and replies that are printed.
+
 use push_model::{
     AckedFrom, ChannelId, Counts, Message, MsgId, NodeId, Pages, Reply, Shared, Stage, Step, Text,
     Token, Uaid,
 };
+use schedule_text::{LineFault, print_reply, print_step, read_line};
 use std::alloc::Global;
+use std::process::Abort;
 use std::test::Fail;
 
-/// The line of the step that is read from the line.
+// The line of the step that is read from the line.
 fn again(alloc: Global, line: &str) -> Result<Text, LineFault> {
     let step = read_line(alloc, line.as_bytes())?;
     print_step(alloc, &step).map_err(|_| LineFault::NoMemory)
 }
 
 #[test]
-fn reads_lines_and_prints_them_again(rt: HostRuntime) -> Result<(), Fail> {
+fn lines_are_printed_again(rt: HostRuntime) -> Result<(), Fail> {
     let alloc = rt.alloc();
     for line in [
         "create 1 1 100",
@@ -39,16 +42,78 @@ fn reads_lines_and_prints_them_again(rt: HostRuntime) -> Result<(), Fail> {
         let text = again(alloc, line)?;
         assert_eq!(rt; text.as_str(), line);
     }
+    Ok(())
+}
+
+// The line is no step's.
+fn is_refused(rt: &impl Abort, alloc: Global, line: &str) {
+    assert_eq!(rt;
+        again(alloc, line).err(),
+        Some(LineFault::Outside),
+        "{line}"
+    );
+}
+
+#[test]
+fn other_lines_are_refused(rt: HostRuntime) -> Result<(), Fail> {
+    let alloc = rt.alloc();
     for line in [
         "",
         " report",
         "report ",
+        "report\r",
+        "Report",
+        "reports",
+        "report 1",
+        "create",
+        "create 1 1",
+        "create 1 1 100 1",
+        "create  1 1 100",
+        "create\t1 1 100",
+        "create 01 1 100",
+        "create 1 01 100",
+        "create 1 0 100",
+        "create 1 9 100",
+        "create 1 1 0100",
+        "create 1 1 +100",
+        "create 1 1 -100",
+        "create 1 1 9223372036854775808",
+        "create 1 1 18446744073709551616",
+        "create 100000000000000000000000000000001 1 100",
+        "register 1 1 100 A 1ab",
+        "register 1 1 100 100000000000000000000000000000000 1ab",
+        "register 1 1 100 5 01ab",
+        "register 1 1 100 5 1aB",
+        "register 1 1 100 5 .",
+        "register 1 1 100 5 1000000000000000000000000000000000000000000000000",
+        "begin 1 1 1ab 2592001 . normal .",
+        "begin 1 1 1ab 60 . Normal .",
+        "begin 1 1 1ab 60 . normal 0",
+        "begin 1 1 1ab 60 . normal 0F",
+        "begin 1 1 1ab 60 . normal ",
+    ] {
+        is_refused(&rt, alloc, line);
+    }
+    Ok(())
+}
+
+#[test]
+fn more_lines_are_refused(rt: HostRuntime) -> Result<(), Fail> {
+    let alloc = rt.alloc();
+    for line in [
+        "begin 18446744073709551616 1 1ab 60 . normal .",
+        "begin 1 9223372036854775808 1ab 60 . normal .",
+        "direct 1",
+        "direct 1 1 1",
+        "heard 1 1",
+        "heard g 1 1",
+        "ack 1 1 100 5 0",
+        "ack 1 1 100 5 9223372036854775808",
+        "caf\u{e9}",
         "report\n",
         "create 1  1 100",
-        "create 01 1 100",
         "create 2 1 100",
         "create 1 2 100",
-        "create 1 1 9223372036854775808",
         "create 1 1 +1",
         "register 1 1 100 FF a0b1",
         "register 1 1 100 ff 0a0b1",
@@ -70,16 +135,12 @@ fn reads_lines_and_prints_them_again(rt: HostRuntime) -> Result<(), Fail> {
         "plains 1 1",
         "ack 1 1 100 ff 0",
     ] {
-        assert_eq!(rt;
-            again(alloc, line).err(),
-            Some(LineFault::Outside),
-            "{line}"
-        );
+        is_refused(&rt, alloc, line);
     }
     Ok(())
 }
 
-/// A message of that number, whose ask is that of the begin.
+// A message of that number, whose ask is that of the begin.
 fn message(alloc: Global, number: u64, begin: &str) -> Result<Shared, LineFault> {
     let Step::Begin(_, _, ask) = read_line(alloc, begin.as_bytes())? else {
         return Err(LineFault::Outside);

@@ -1,4 +1,8 @@
-use super::*;
+//! The sources and sinks in memory, and the adapters over std, call by call.
+
+use push_outside::{
+    Got, ListSink, ListSource, Put, Reading, Sink, Source, SureSink, SureSource, Writing,
+};
 use std::alloc::{AllocError, Global};
 use std::test::Fail;
 
