@@ -1,4 +1,4 @@
-//! Tests across the crates of the service: whole schedules, their replies and their exit statuses.
+//! Tests of the service: calls that want memory, streams, lines, and schedules that reach a limit or meet a fault.
 #![tactic(auto)]
 
 #[cfg(test)]
