@@ -1,6 +1,7 @@
 #!/usr/bin/env bash
-# Runs the program on schedules with the Nth allocation refused, for each N in turn until none is refused any more.
-# Each run must end with status 7 and a front of the usual text, or as without the refusal. It needs a C compiler.
+# Runs the program on schedules with the Nth allocation refused, for each N in turn until none is refused any more: the
+# examples, the program's own, each of crates/transcripts/data, and the files that are named. Each run must end with status
+# 7 and a front of the usual text, or as without the refusal. It needs a C compiler.
 set -u
 here=$(cd "$(dirname "$0")/.." && pwd)
 program=$here/crates/autopush/out/autopush
@@ -42,8 +43,17 @@ int posix_memalign(void **out, size_t align, size_t size) {
 }
 C
 cc -O1 -shared -fPIC -o "$work/refuse.so" "$work/refuse.c" -ldl || exit 1
+# what each transcript sends, as a file
+mkdir "$work/transcripts"
+for file in "$here"/crates/transcripts/data/*.txt; do
+  awk -v out="$work/transcripts/$(basename "$file" .txt)-" '
+    /^== / { if (n) printf "%s", text > (out n); n++; text = opening }
+    /^< / { text = text substr($0, 3) "\n"; if (!n) opening = text }
+    /^<[.] / { text = text substr($0, 4) }
+    END { if (n) printf "%s", text > (out n) }' "$file"
+done
 bad=0
-for schedule in "$here"/examples/*.schedule "$here"/crates/autopush/stdin "$@"; do
+for schedule in "$here"/examples/*.schedule "$here"/crates/autopush/stdin "$work"/transcripts/* "$@"; do
   "$program" replay <"$schedule" >"$work/usual"; usual=$?
   refusals=0 same=0 number=1
   while [ "$same" -lt 3 ] && [ "$number" -le 100000 ]; do
