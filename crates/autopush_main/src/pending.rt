@@ -78,6 +78,18 @@ fn line_end(bytes: &[u8]) -> Option<usize>
     first_lf(bytes)
 }
 
+/// The same, where it is known that so many bytes in front have no LF, so that they aren't looked at again.
+fn line_end_behind(bytes: &[u8], scanned: usize) -> Option<usize>
+    requires within { scanned ≤ length bytes.now }
+    requires front { NoLf (take scanned bytes.now) }
+    ensures { MatchOption result (NoLf bytes.now) (λ n. (n < length bytes.now) × NoLf (take n bytes.now) × (drop n bytes.now ≡ 10 ∷ drop (n + 1) bytes.now)) }
+{
+    match line_end(&bytes[scanned..]) {
+        Some(n) => Some(scanned + n),
+        None => None,
+    }
+}
+
 /// What stands at the front of the input.
 #[derive(Clone, Copy, Debug)]
 pub enum Next {
@@ -104,13 +116,15 @@ pub fn next_line<I: Source>(source: &mut I, pending: &mut Pending) -> Next
     ensures input { Fills result (I.left source.old) (I.left source.new) pending.old pending.new }
     ensures found { Found result pending.new (I.faults source.old) (I.faults source.new) (I.lulls source.new) }
 {
+    let mut scanned = 0;
     for _ in 0..=LINE + 1 {
-        match line_end(pending.bytes()) {
+        match line_end_behind(pending.bytes(), scanned) {
             Some(n) if n <= LINE => return Next::Line(n),
             Some(_) => return Next::TooLong,
             None => {}
         }
-        if pending.bytes().len() > LINE {
+        scanned = pending.bytes().len();
+        if scanned > LINE {
             return Next::TooLong;
         }
         let mut room = [0; CHUNK];
