@@ -1,9 +1,9 @@
 //! What becomes of a flight, by what happens to it and the stage that it is at.
 ghost use Rattle.std.specs.Prelude.{◌≡◌};
 ghost use Rattle.push_model.specs.declared.step.Stage.{Stage};
-ghost use Rattle.push_model.specs.Advances.{flight_advance, to_store, given_advance, heard_advance, lost_advance, stored_advance, ended_advance, read_advance, read_place, nudged_advance, cleared_advance, give_up_advance};
+ghost use Rattle.push_model.specs.Advances.{flight_advance, to_store, given_advance, heard_advance, lost_advance, stored_advance, ended_advance, give_up_advance};
 
-use push_model::{Advance, Event, NodeId, Stage};
+use push_model::{Advance, Event, NodeId, Stage, cleared_advance, nudged_advance, read_advance};
 
 /// What becomes of a flight at that stage, whose message has ttl 0 (`unkept`) or not.
 pub(crate) fn flight_advance(event: Event, unkept: bool, stage: Stage) -> Advance
@@ -15,9 +15,9 @@ pub(crate) fn flight_advance(event: Event, unkept: bool, stage: Stage) -> Advanc
         Event::Lost => lost(unkept, stage),
         Event::Stored => stored(stage),
         Event::Ended(code) => ended(code, stage),
-        Event::Read(place) => read(place, stage),
-        Event::Nudged(here) => nudged(here, stage),
-        Event::Cleared => cleared(stage),
+        Event::Read(place) => read_advance(201, place, stage),
+        Event::Nudged(here) => nudged_advance(here, stage),
+        Event::Cleared => cleared_advance(201, stage),
         Event::AllSaved => Advance::Out(stage),
         Event::GiveUp => give_up(stage),
     }
@@ -97,43 +97,6 @@ fn ended(code: u16, stage: Stage) -> Advance
 {
     match stage {
         Stage::Store => Advance::End(code),
-        other => Advance::Out(other),
-    }
-}
-
-fn read(place: Option<(NodeId, u64)>, stage: Stage) -> Advance
-    ensures { result ≡ read_advance 201 place stage }
-{
-    match stage {
-        Stage::Reread => to_nudge(place),
-        other => Advance::Out(other),
-    }
-}
-
-// the session that the route row names is to be told, if it names one
-fn to_nudge(place: Option<(NodeId, u64)>) -> Advance
-    ensures { result ≡ read_place 201 place }
-{
-    match place {
-        Some((node, at)) => Advance::Moved(Stage::Nudge(node, at)),
-        None => Advance::End(201),
-    }
-}
-
-fn nudged(here: bool, stage: Stage) -> Advance
-    ensures { result ≡ nudged_advance here stage }
-{
-    match stage {
-        Stage::Nudge(node, at) => Advance::Moved(Stage::ToldNudge(here, node, at)),
-        other => Advance::Out(other),
-    }
-}
-
-fn cleared(stage: Stage) -> Advance
-    ensures { result ≡ cleared_advance 201 stage }
-{
-    match stage {
-        Stage::Clear(_, _) => Advance::End(201),
         other => Advance::Out(other),
     }
 }

@@ -2,12 +2,14 @@
 ghost use Rattle.std.specs.Prelude.{◌≡◌, ◌<◌, find, length};
 ghost use Rattle.push_model.specs.Keyed.{FoundAt};
 ghost use Rattle.push_model.specs.SessionKey.{SessionKey};
-ghost use Rattle.push_model.specs.Advances.{saver_advance, saver_heard_advance, saver_lost_advance, read_advance, read_place, nudged_advance, cleared_advance, all_saved_advance};
+ghost use Rattle.push_model.specs.Advances.{saver_advance, saver_heard_advance, saver_lost_advance, all_saved_advance};
 ghost use Rattle.push_model.specs.Cells.{is_saver};
 ghost use Rattle.push_model.specs.CellSteps.{saver_advance_of, savers_moved};
 
 use crate::saver::{Saver, saver_place};
-use push_model::{Advance, Event, NodeId, SessionId, Stage};
+use push_model::{
+    Advance, Event, NodeId, SessionId, Stage, cleared_advance, nudged_advance, read_advance,
+};
 
 /// The saver of that session moves on by the event, if it is there.
 pub fn advance_saver(savers: &mut Vec<Saver>, s: SessionId, event: Event) -> Advance
@@ -49,9 +51,9 @@ fn saver_advance(event: Event, some_saved: bool, stage: Stage) -> Advance
     match event {
         Event::Heard => heard_advance(stage),
         Event::Lost => lost_advance(stage),
-        Event::Read(place) => read_advance(place, stage),
+        Event::Read(place) => read_advance(200, place, stage),
         Event::Nudged(here) => nudged_advance(here, stage),
-        Event::Cleared => cleared_advance(stage),
+        Event::Cleared => cleared_advance(200, stage),
         Event::AllSaved => all_saved_advance(some_saved, stage),
         Event::Direct(_) | Event::Stored | Event::Ended(_) | Event::GiveUp => Advance::Out(stage),
     }
@@ -83,42 +85,6 @@ fn lost_advance(stage: Stage) -> Advance
         Stage::Nudge(node, at) | Stage::ToldNudge(_, node, at) => {
             Advance::Moved(Stage::Clear(node, at))
         }
-        _ => Advance::Out(stage),
-    }
-}
-
-fn read_advance(place: Option<(NodeId, u64)>, stage: Stage) -> Advance
-    ensures { result ≡ read_advance 200 place stage }
-{
-    match stage {
-        Stage::Reread => read_place(place),
-        _ => Advance::Out(stage),
-    }
-}
-
-fn read_place(place: Option<(NodeId, u64)>) -> Advance
-    ensures { result ≡ read_place 200 place }
-{
-    match place {
-        Some((node, at)) => Advance::Moved(Stage::Nudge(node, at)),
-        None => Advance::End(200),
-    }
-}
-
-fn nudged_advance(here: bool, stage: Stage) -> Advance
-    ensures { result ≡ nudged_advance here stage }
-{
-    match stage {
-        Stage::Nudge(node, at) => Advance::Moved(Stage::ToldNudge(here, node, at)),
-        _ => Advance::Out(stage),
-    }
-}
-
-fn cleared_advance(stage: Stage) -> Advance
-    ensures { result ≡ cleared_advance 200 stage }
-{
-    match stage {
-        Stage::Clear(_, _) => Advance::End(200),
         _ => Advance::Out(stage),
     }
 }
