@@ -1,7 +1,8 @@
 //! How the message of a flight is given to the session that it is for.
 ghost use Rattle.std.specs.Prelude.{◌≡◌, ◌^◌, ◌<◌, IfOk, OnOk, OnErr, find, true};
 ghost use Rattle.push_model.specs.Sessions.{is_attached_at};
-ghost use Rattle.user_cell.specs.Flights.{IsReceiver, can_take, with_received};
+ghost use Rattle.push_model.specs.CellSteps.{can_give};
+ghost use Rattle.user_cell.specs.Flights.{IsReceiver, with_received};
 
 use push_model::{FlightRow, NoMemory, NodeId, is_expired};
 use user_rows::{User, channels_of, has_channel};
@@ -17,9 +18,9 @@ pub(crate) fn give_to(
     moment: u64,
 ) -> Result<bool, NoMemory>
     requires { moment < 2 ^ 62 }
-    ensures here { IfOk result (λ b. b ≡ can_take (find (is_attached_at node) sessions.old.items) moment flight.now user.now) }
+    ensures here { IfOk result (λ b. b ≡ can_give (find (is_attached_at node) sessions.old.items) moment flight.now user.now) }
     ensures sessions { IfOk result (λ b. sessions.new.items ≡ with_received b node flight.now.message sessions.old.items) }
-    ensures err { OnErr result ((sessions.new.items ≡ sessions.old.items) × (can_take (find (is_attached_at node) sessions.old.items) moment flight.now user.now ≡ true)) }
+    ensures err { OnErr result ((sessions.new.items ≡ sessions.old.items) × (can_give (find (is_attached_at node) sessions.old.items) moment flight.now user.now ≡ true)) }
 {
     let Some(place) = receiver(sessions, user, flight, node, moment) else {
         return Ok(false);
