@@ -1,11 +1,11 @@
 -- A message of a pool by its number, where one message is marked.
-use Rattle.std.proofs.Common.{◌≡◌, ◌≢◌, ℕ, ◌+◌, Bool, true, false, ◌&&◌, cond, ◌⊎◌, inl, inr, List, [], ◌∷◌, ◌++◌, refl, ap, sym, subst, arith}
+use Rattle.std.proofs.Common.{◌≡◌, ◌≢◌, ℕ, ◌+◌, Bool, true, false, ◌&&◌, ◌||◌, not, cond, ◌⊎◌, inl, inr, List, [], ◌∷◌, ◌++◌, refl, ap, sym, subst, arith}
 use Rattle.std.specs.Prelude.{find, Option, Some, None, is_some, ◌==◌, nat_lt}
 use Rattle.std.specs.List.{list_all}
 use Rattle.std.proofs.lemmas.Bool.Decides.{nat_tests}
 use Rattle.push_model.specs.MessageValue.{MessageValue}
-use Rattle.push_model.specs.Keyed.{with_first}
 use Rattle.push_model.specs.Messages.{is_same_topic}
+use Rattle.push_model.specs.Keyed.{with_first}
 use Rattle.push_model.specs.Pools.{Taken, Pool, is_taken, taken_at, is_sent_to, replaces, marked}
 use Rattle.push_model.proofs.Members.{true_not_false}
 
@@ -166,7 +166,30 @@ above_next n x h = grind (arith, nat_tests)
 below_itself : (n : ℕ) → nat_lt n (n + 1) ≡ true
 below_itself n = grind (arith, nat_tests)
 
-both : (a b : Bool) → a ≡ true → b ≡ true → (a && b) ≡ true
+-- one of three holds
+pub first_holds : (a b c : Bool) → a ≡ true → (a || b || c) ≡ true
+first_holds true b c e = refl
+first_holds false b c e = absurd (true_not_false (sym e))
+
+pub second_holds : (a b c : Bool) → b ≡ true → (a || b || c) ≡ true
+second_holds true b c e = refl
+second_holds false true c e = refl
+second_holds false false c e = absurd (true_not_false (sym e))
+
+pub third_holds : (a b c : Bool) → c ≡ true → (a || b || c) ≡ true
+third_holds true b c e = refl
+third_holds false true c e = refl
+third_holds false false true e = refl
+third_holds false false false e = absurd (true_not_false (sym e))
+
+-- neither holds
+pub neither : (a b : Bool) → (a || not b) ≡ false → (a ≡ false) × (b ≡ true)
+neither true b e = absurd (true_not_false e)
+neither false true e = (refl, refl)
+neither false false e = absurd (true_not_false e)
+
+-- both hold
+pub both : (a b : Bool) → a ≡ true → b ≡ true → (a && b) ≡ true
 both a b e f = rw (e, f) refl
 
 -- with the next message the bound is the next number
