@@ -1,5 +1,5 @@
 //! The list of a user's flights.
-ghost use Rattle.std.specs.Prelude.{◌≡◌, ◌==◌, ◌<◌, ◌++◌, ◌∷◌, [], IfOk, OnOk, OnErr, find, position, length, not, option_copied, if◌then◌else◌};
+ghost use Rattle.std.specs.Prelude.{◌≡◌, ◌==◌, ◌<◌, ◌++◌, ◌∷◌, [], IfOk, OnOk, OnErr, false, find, position, length, not, option_copied, if◌then◌else◌};
 ghost use Rattle.std.specs.List.{list_any};
 ghost use Rattle.std.specs.Option.{option_map};
 ghost use Rattle.push_model.specs.declared.ids.Op.{Op};
@@ -49,11 +49,11 @@ impl Flights {
     }
 
     /// Begins the flight as the last. Where the op is in use the answer is `false`, the flight is dropped and the list
-    /// stays the same, as it does at `NoMemory`.
+    /// stays the same, as it does at `NoMemory`, which comes only where the op is not in use.
     pub fn begin(&mut self, op: Op, flight: Flight) -> Result<bool, NoMemory>
         ensures answer { IfOk result (λ b. b ≡ not (list_any (is_flight op) self.old)) }
         ensures list { OnOk result (self.new ≡ (if list_any (is_flight op) self.old then self.old else self.old ++ record { op = op; message = flight.message; token = flight.token; stage = flight.stage } ∷ [])) }
-        ensures err { OnErr result (self.new ≡ self.old) }
+        ensures err { OnErr result ((self.new ≡ self.old) × (list_any (is_flight op) self.old ≡ false)) }
     {
         if self.has(op) {
             return Ok(false);

@@ -1,0 +1,5 @@
+pub mod RowStock
+pub mod RowDues
+pub mod Storing
+pub mod Pages
+pub mod Going

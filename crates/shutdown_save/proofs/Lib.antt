@@ -1,0 +1,2 @@
+pub mod CoveringLemmas
+pub mod SavingLemmas

@@ -1,0 +1,2 @@
+pub mod SaverStock
+pub mod Savers

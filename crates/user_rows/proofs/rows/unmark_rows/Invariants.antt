@@ -1,7 +1,0 @@
-use Rattle.std.proofs.Common.{◌≡◌, ◌++◌, take, drop}
-use Rattle.std.specs.Prelude.{map}
-use Rattle.push_model.specs.Cells.{unmarked_row}
-use Rattle.user_rows.proofs.rows.unmark_rows.Given as goal
-
-abbrev pub invariant-loop-row : goal.invariant-loop-row
-invariant-loop-row l = l.row-items ≡ map unmarked_row (take l.row-index l.fn.rows.items) ++ drop l.row-index l.fn.rows.items

@@ -1,7 +1,0 @@
-use Rattle.push_model.specs.Cells.{is_saver}
-use Rattle.push_model.specs.CellSteps.{saver_at}
-use Rattle.push_model.proofs.KeyedLemmas.{changed_at}
-use Rattle.user_sessions.proofs.saver_advance.move_saver.Goals as goal
-
-pub returns-in-Moved : goal.returns-in-Moved
-returns-in-Moved c = λ s at. rw (c.in-Moved.is, c.go_on.ensures) (changed_at (is_saver s) (saver_at c.in-Moved.stage) _ _ c.index_mut.result.now at c.index_mut.ensures.value)
