@@ -1,4 +1,7 @@
 pub mod Flights
+pub mod Joining
 pub mod Nudges
+pub mod Parts
 pub mod Places
-pub mod StoredReply
+pub mod Saving
+pub mod Storing

@@ -1,6 +1,5 @@
-use Rattle.std.proofs.Common.{refl}
+use Rattle.user_cell.proofs.Room.{room_moved}
 use Rattle.user_cell.proofs.cell.UserCell.saver_reread.Goals as goal
 
-pub returns-clause-reply : goal.returns-clause-reply
-returns-clause-reply c =
-    rw (c.read_reply.ensures, c.advance_saver-advance.ensures.advance, c.routed_place.ensures, c.unclosed-absent.ensures, ← c.self.view_is) refl
+pub invariant_of-self : goal.invariant_of-self
+invariant_of-self c = (c.self.invariant.0, rw (c.advance-advance.ensures.savers, c.advance-advance.ensures.spare) (room_moved _ _ _ _ _ c.self.invariant.1))

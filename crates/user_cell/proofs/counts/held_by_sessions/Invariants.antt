@@ -1,8 +1,0 @@
-use Rattle.std.proofs.Common.{◌≡◌, take, length}
-use Rattle.std.specs.Prelude.{sum_by}
-use Rattle.push_model.specs.Sessions.{held}
-use Rattle.push_model.specs.Tallies.{capped}
-use Rattle.user_cell.proofs.counts.held_by_sessions.Given as goal
-
-abbrev pub invariant-loop-session : goal.invariant-loop-session
-invariant-loop-session l = l.total ≡ capped (sum_by (λ x. length (held x)) (take l.session-index l.sessions))
