@@ -1,0 +1,7 @@
+mod Values
+mod Counts
+mod Making
+mod Puts
+mod Begun
+mod Steps
+mod Lists

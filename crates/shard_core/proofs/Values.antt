@@ -1,0 +1,48 @@
+-- Searches and sums over the values of a map's entries.
+use Rattle.std.proofs.Common.{◌≡◌, ℕ, ◌+◌, Bool, true, false, cond, List, [], ◌∷◌, refl, ap, ◌∙◌}
+use Rattle.std.specs.Prelude.{Option, Some, Result, Ok, Err, OnErr, find, fold, sum_by, count_by, ◌||◌}
+use Rattle.std.specs.Option.{option_map}
+use Rattle.std.specs.List.{list_any}
+use Rattle.std.specs.Map.{set_value, remove_entry, values_of}
+
+find_cons : {X : Type 0} (b : Bool) (e : ℕ × X) (o : Option X) (q : Option (ℕ × X)) → o ≡ option_map (λ d. d.1) q → cond b (Some e.1) o ≡ option_map (λ d. d.1) (cond b (Some e) q)
+find_cons true e o q h = refl
+find_cons false e o q h = h
+
+pub find-values : {X : Type 0} (p : X → Bool) (es : List (ℕ × X)) → find p (values_of es) ≡ option_map (λ d. d.1) (find (λ e. p e.1) es)
+find-values p [] = refl
+find-values p (e ∷ es) = find_cons (p e.1) e (find p (values_of es)) (find (λ d. p d.1) es) (find-values p es)
+
+pub any-values : {X : Type 0} (p : X → Bool) (es : List (ℕ × X)) → list_any p (values_of es) ≡ list_any (λ e. p e.1) es
+any-values p [] = refl
+any-values p (e ∷ es) = ap (λ b. p e.1 || b) (any-values p es)
+
+fold-values : {X : Type 0} (f : X → ℕ) (z : ℕ) (es : List (ℕ × X)) → fold (λ a x. a + f x) z (values_of es) ≡ fold (λ a e. a + f e.1) z es
+fold-values f z [] = refl
+fold-values f z (e ∷ es) = fold-values f (z + f e.1) es
+
+pub sum_by-values : {X : Type 0} (f : X → ℕ) (es : List (ℕ × X)) → sum_by f (values_of es) ≡ sum_by (λ e. f e.1) es
+sum_by-values f es = fold-values f 0 es
+
+pub count_by-values : {X : Type 0} (p : X → Bool) (es : List (ℕ × X)) → count_by p (values_of es) ≡ count_by (λ e. p e.1) es
+count_by-values p es = fold-values (λ x. cond (p x) 1 0) 0 es
+
+rem_by : {X : Type 0} (t : ℕ → Bool) (b : Bool) (e : ℕ × X) (es fs : List (ℕ × X)) (c : X) → t e.0 ≡ b → remove_entry t fs ≡ remove_entry t es →
+    remove_entry t (cond b ((e.0, c) ∷ es) (e ∷ fs)) ≡ cond b es (e ∷ remove_entry t es)
+rem_by t true e es fs c h i = ap (λ b. cond b es ((e.0, c) ∷ remove_entry t es)) h
+rem_by t false e es fs c h i = ap (λ b. cond b fs (e ∷ remove_entry t fs)) h ∙ ap (λ xs. e ∷ xs) i
+
+-- an entry that is removed after it was written
+pub remove_entry-set_value : {X : Type 0} (t : ℕ → Bool) (es : List (ℕ × X)) (c : X) → remove_entry t (set_value t es c) ≡ remove_entry t es
+remove_entry-set_value t [] c = refl
+remove_entry-set_value t (e ∷ es) c = rem_by t (t e.0) e es (set_value t es c) c refl (remove_entry-set_value t es c)
+
+-- what holds at all holds at an `Err`
+pub on_err : {T E P : Type 0} (r : Result T E) → P → OnErr r P
+on_err (Ok x) p = tt
+on_err (Err e) p = p
+
+-- what holds at an `Err` says there what follows of it
+pub err_map : {T E P Q : Type 0} (r : Result T E) → (P → Q) → OnErr r P → OnErr r Q
+err_map (Ok x) f p = tt
+err_map (Err e) f p = f p

@@ -1,0 +1,8 @@
+use Rattle.std.proofs.Common.{◌≡◌}
+use Rattle.std.specs.Prelude.{map}
+use Rattle.push_model.specs.ShardSteps.{is_idle}
+use Rattle.shard_core.specs.Listing.{first_listed}
+use Rattle.shard_core.proofs.cells.idle_users.Given as goal
+
+abbrev pub invariant-loop-cell : goal.invariant-loop-cell
+invariant-loop-cell l = l.users ≡ first_listed (is_idle l.now) (map (λ c. c.now) l.yielded)

@@ -1,0 +1,22 @@
+use Rattle.std.proofs.Common.{◌≡◌, ◌-◌, ℕ, Bool, true, List, slice_set, ap, sym, ◌∙◌}
+use Rattle.push_model.specs.Cells.{Cell}
+use Rattle.push_model.specs.Tallies.{capped}
+use Rattle.push_model.specs.NodeSteps.{killed, held_on, orphaned_on}
+use Rattle.push_model.specs.Worlds.{World, each}
+use Rattle.push_model.specs.declared.reply.Reply.TheVariants.{Killed}
+use Rattle.shard_core.proofs.Values.{sum_by-values}
+use Rattle.shard_core.proofs.state.State.kill.Goals as goal
+
+pub returns : goal.returns
+returns c =
+    let s = c.self.inside in
+    let n = c.args.node in
+    let es = s.cells.entries in
+    let held = sym (c.held_on-held.ensures ∙ ap capped (sum_by-values (held_on n) es)) in
+    let orphaned = sym (c.orphaned_on-orphaned.ensures ∙ ap capped (sum_by-values (orphaned_on n) es)) in
+    let number = sym (c.from.ensures ∙ c.get.ensures.value) in
+    let cells = sym c.kill_cells.ensures in
+    rw (← c.self.view_is) (λ i. (
+      record { shard = s.number; clock = s.clock; next = s.next; down = slice_set s.down (number i - 1) true; cells = cells i; tally = s.tally },
+      Killed (held i) (orphaned i),
+    ))

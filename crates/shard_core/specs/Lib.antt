@@ -1,0 +1,4 @@
+pub mod Counting
+pub mod Made
+pub mod Shards
+pub mod Listing

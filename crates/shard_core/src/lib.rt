@@ -1,0 +1,8 @@
+//! A shard: its clock, its message numbers, its nodes, the cells of its users and its tally, and every step on it.
+#![tactic(auto)]
+
+mod cells;
+mod shard;
+mod state;
+
+pub use shard::Shard;
