@@ -6,26 +6,38 @@ use Rattle.std.proofs.lemmas.Slice.Eq.{bytes_eq-Decides}
 use Rattle.push_model.specs.declared.step.Actor.{Actor}
 use Rattle.push_model.specs.declared.step.Actor.TheVariants.{Flight, Saver}
 use Rattle.push_model.specs.AskValue.{AskValue}
-use Rattle.schedule_text.specs.Spelling.{session_words, op_words, actor_words, ask_words, IsSession, IsOp, IsActor, IsChannel, IsId, IsLineAsk}
+use Rattle.schedule_text.specs.Spelling.{user_words, session_words, op_words, actor_words, ask_words, IsSession, IsOp, IsActor, IsChannel, IsId, IsLineAsk, IsMoment, IsNode, IsUser}
 use Rattle.schedule_text.specs.Words.{word, hex}
-use Rattle.schedule_text.specs.Reading.{word_at, made_at, session_at, op_at, channel_at, id_at, tagged_at, actor_at, ask_of, ask_at}
-use Rattle.schedule_text.proofs.Fields.{bind_some, some_is, chosen, word_takes, IsBreak, Field, both_fields, made_field}
+use Rattle.schedule_text.specs.Reading.{word_at, made_at, moment_at, node_at, user_at, session_at, op_at, channel_at, id_at, tagged_at, actor_at, ask_of, ask_at}
+use Rattle.schedule_text.proofs.Fields.{bind_some, some_is, chosen, word_takes, IsBreak, Field, narrowed, both_fields, made_field}
 use Rattle.schedule_text.proofs.ValueLaws.{hex_field, decimal_field, topic_field, urgency_field, payload_field}
+
+pub moment_field : Field moment_at (λ m. word (decimal m)) IsMoment
+unfolding moment_at
+moment_field = narrowed (decimal_field 0 (2 ^ 62 - 1) (omega arith)) (λ m h. omega (arith, h.1)) (λ m h. (omega arith, omega (arith, h)))
+
+pub node_field : Field node_at (λ n. word (decimal n)) IsNode
+unfolding node_at
+node_field = decimal_field 1 8 (omega arith)
+
+pub user_field : Field user_at user_words IsUser
+unfolding user_at
+user_field = made_field hex_field (record { spells = λ x. refl; ranges = λ x h. h; parts = λ u h. (u.0, refl, h) })
 
 pub session_field : Field session_at session_words IsSession
 unfolding session_at
-session_field = made_field (both_fields hex_field (both_fields (decimal_field 1 8 (omega arith)) (decimal_field 0 (2 ^ 63 - 1) (omega arith)))) (record {
+session_field = made_field (both_fields user_field (both_fields node_field (decimal_field 0 (2 ^ 63 - 1) (omega arith)))) (record {
   spells = λ x. refl;
   ranges = λ x h. record { uaid = h.0; node_low = h.1.0.0; node_high = h.1.0.1; at = omega (arith, h.1.1.1) };
-  parts = λ s h. ((s.uaid.0, (s.node, s.at)), refl, (h.uaid, ((h.node_low, h.node_high), (omega arith, omega (arith, h.at)))));
+  parts = λ s h. ((s.uaid, (s.node, s.at)), refl, (h.uaid, ((h.node_low, h.node_high), (omega arith, omega (arith, h.at)))));
 })
 
 pub op_field : Field op_at op_words IsOp
 unfolding op_at
 op_field = made_field (both_fields (decimal_field 0 (2 ^ 64 - 1) (omega arith)) (decimal_field 0 (2 ^ 63 - 1) (omega arith))) (record {
   spells = λ x. refl;
-  ranges = λ x h. record { pass = omega (arith, h.0.1); number = omega (arith, h.1.1) };
-  parts = λ o h. ((o.pass, o.number), refl, ((omega arith, omega (arith, h.pass)), (omega arith, omega (arith, h.number))));
+  ranges = λ x h. record { pass = omega (arith, h.0.1); k = omega (arith, h.1.1) };
+  parts = λ o h. ((o.pass, o.k), refl, ((omega arith, omega (arith, h.pass)), (omega arith, omega (arith, h.k))));
 })
 
 pub channel_field : Field channel_at (λ h. word (hex h.0)) IsChannel

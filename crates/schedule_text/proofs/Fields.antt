@@ -89,6 +89,14 @@ field {A} value spelled fits v = record {
   breaks = λ x rest f h. refl;
 }
 
+-- the same ranges in other words
+pub narrowed : {A : Type 0} {p : List ℕ → Option (A × List ℕ)} {s : A → List ℕ} {f g : A → Type 0} → Field p s f → ((x : A) → f x → g x) → ((x : A) → g x → f x) → Field p s g
+narrowed {A} {p} {s} {f} {g} a there back = record {
+  takes = λ bytes x e. let t = a.takes bytes x e in (t.0, there x.0 t.1);
+  again = λ x rest h brk. a.again x rest (back x h) brk;
+  breaks = λ x rest h brk. a.breaks x rest (back x h) brk;
+}
+
 -- two fields, one after the other
 pub both_fields : {A B : Type 0} {p : List ℕ → Option (A × List ℕ)} {q : List ℕ → Option (B × List ℕ)} {s : A → List ℕ} {t : B → List ℕ} {f : A → Type 0} {g : B → Type 0}
     → Field p s f → Field q t g → Field (both p q) (λ x. s x.0 ++ t x.1) (λ x. f x.0 × g x.1)

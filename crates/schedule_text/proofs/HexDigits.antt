@@ -6,12 +6,12 @@ use Rattle.std.proofs.lemmas.List.{drop-set}
 use Rattle.std.proofs.lemmas.Nat.{pow-add}
 
 -- one more digit is written
-writes_digit : (k n : ℕ) (acc : List ℕ) → 16 ≤ n → digits_onto (suc k) 16 false n acc ≡ digits_onto k 16 false (n / 16) (digit_glyph false (n % 16) ∷ acc)
+pub writes_digit : (k n : ℕ) (acc : List ℕ) → 16 ≤ n → digits_onto (suc k) 16 false n acc ≡ digits_onto k 16 false (n / 16) (digit_glyph false (n % 16) ∷ acc)
 writes_digit k n acc le =
     let big : eqb (n / 16) 0 ≡ false = ne_eqb _ _ (omega arith) in
     rw big refl
 
-writes_last : (k n : ℕ) (acc : List ℕ) → n < 16 → digits_onto (suc k) 16 false n acc ≡ digit_glyph false n ∷ acc
+pub writes_last : (k n : ℕ) (acc : List ℕ) → n < 16 → digits_onto (suc k) 16 false n acc ≡ digit_glyph false n ∷ acc
 writes_last k n acc lt =
     let none : eqb (n / 16) 0 ≡ true = eq-eqb _ _ (omega arith) in
     let same : n % 16 ≡ n = omega arith in

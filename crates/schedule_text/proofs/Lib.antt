@@ -1,7 +1,13 @@
 pub mod Numerals
+pub mod HexNumerals
+pub mod Decimals
 pub mod HexDigits
+pub mod DigitPairs
+pub mod SpaceLaws
+pub mod Texts
 pub mod Zeros
 pub mod Pages
+pub mod Reports
 pub mod Fields
 pub mod ValueLaws
 pub mod FieldLaws

@@ -1,5 +1,5 @@
 -- The laws of the values of words.
-use Rattle.std.proofs.Common.{◌≡◌, ℕ, zero, suc, ◌+◌, ◌-◌, ◌*◌, ◌/◌, ◌%◌, ◌^◌, ◌<◌, ◌≤◌, Bool, true, false, cond, ltb, leb, eqb, ◌&&◌, List, [], ◌∷◌, ◌++◌, length, get_or, replicate, Option, Some, None, Result, Ok, Err, refl, sym, ap, subst, ◌∙◌, arith, inl, inr}
+use Rattle.std.proofs.Common.{◌≡◌, ℕ, zero, suc, ◌+◌, ◌-◌, ◌*◌, ◌/◌, ◌%◌, ◌^◌, ◌<◌, ◌≤◌, Bool, true, false, cond, ltb, leb, eqb, ◌&&◌, List, [], ◌∷◌, ◌++◌, length, get_or, replicate, Option, Some, None, Result, Ok, Err, refl, sym, ap, subst, ◌∙◌, arith, inl, inr, ◌⊎◌, length-append}
 use Rattle.std.specs.Prelude.{IfSome, decimal, codes}
 use Rattle.std.specs.Fmt.{digits}
 use Rattle.std.specs.List.{list_all}
@@ -7,6 +7,7 @@ use Rattle.std.specs.Char.{digit_value}
 use Rattle.std.specs.Str.Parse.{AllDigits}
 use Rattle.std.specs.Str.{bytes_eq}
 use Rattle.std.proofs.lemmas.Bool.{ne_eqb, ltb-true, lt-ltb, leb-true, le-leb, and_parts, cases_Bool}
+use Rattle.std.proofs.lemmas.List.{length-replicate}
 use Rattle.std.proofs.lemmas.Slice.Eq.{bytes_eq-Decides}
 use Rattle.hex.specs.Hex.{encode_lower, encode_with, lower_digits, decode_of, decode_sized}
 use Rattle.hex.specs.declared.error.FromHexError.{FromHexError}
@@ -17,10 +18,11 @@ use Rattle.push_model.specs.declared.ids.Token.{Token}
 use Rattle.push_model.specs.Topics.{is_topic, is_topic_byte, IsTopic}
 use Rattle.schedule_text.specs.Spelling.{IsToken, IsPayload}
 use Rattle.schedule_text.specs.Words.{word, hex, token_word, topic_word, urgency_word, payload_word, trimmed}
-use Rattle.schedule_text.specs.Reading.{is_space, padded, numeral_value, decimal_value, token_value, checked_token, topic_value, urgency_value, payload_value, checked_payload, hex_at, decimal_at, token_at, topic_at, urgency_at, payload_at}
+use Rattle.schedule_text.specs.Reading.{is_space, padded, numeral_value, decimal_value, token_value, checked_token, topic_value, urgency_value, payload_value, checked_payload, is_digit, decoded, AreNumeral, hex_at, decimal_at, token_at, topic_at, urgency_at, payload_at}
 use Rattle.schedule_text.proofs.Fields.{bind_some, if_some, some_is, chosen, NoSpace, Value, Field, field}
 use Rattle.schedule_text.proofs.Numerals.{IsBase, base10, base16, digits_are, value_some, value_takes}
-use Rattle.schedule_text.proofs.Zeros.{length-trimmed, zeros_come_back}
+use Rattle.schedule_text.proofs.DigitPairs.{decodes, decoded-nil, length-decoded, encoded_digits, spelled_bytes}
+use Rattle.schedule_text.proofs.Zeros.{length-trimmed, zeros_come_back, trimmed_numeral, numeral_trimmed, padded_digits}
 
 is_that : (w name : List ℕ) → bytes_eq w name ≡ true → w ≡ name
 is_that w name h = (bytes_eq-Decides w name).0 h
@@ -34,6 +36,10 @@ is_not w name h =
 
 is_itself : (w : List ℕ) → bytes_eq w w ≡ true
 is_itself w = (bytes_eq-Decides w w).1 refl
+
+none_unless : {A : Type 0} (o : Option A) → ((x : A) → o ≡ Some x → ⊥) → o ≡ None
+none_unless (Some x) h = absurd (h x refl)
+none_unless None h = refl
 
 -- ---- numbers
 
@@ -129,6 +135,23 @@ token_again t h =
     let long : length (encode_lower t.0) ≡ 2 * length t.0 = length-encode_with lower_digits t.0 in
     let short : leb (length (token_word t)) 48 ≡ true = le-leb _ _ (omega (arith, long, h.size, length-trimmed (encode_lower t.0))) in
     rw (short, padded_token t h, decode_sized-encode_lower t.0 24 h.size h.bytes, is_itself (token_word t)) refl
+
+pub token_read : (w : List ℕ) (t : Token) → length w ≤ 48 → AreNumeral w → encode_lower t.0 ≡ padded w → token_value w ≡ Some t
+token_read w t short h e =
+    let all : list_all is_digit (encode_lower t.0) ≡ true = ap (list_all is_digit) e ∙ padded_digits (48 - length w) w h.all in
+    let zeros : List ℕ = replicate (48 - length w) 48 in
+    let whole : length (zeros ++ w) ≡ 48 = rw (length-append zeros w, length-replicate {A = ℕ} (48 - length w) 48) (omega arith) in
+    let long : 2 * length t.0 ≡ 48 = sym (length-encode_with lower_digits t.0) ∙ ap (λ (v : List ℕ). length v) e ∙ whole in
+    let word_is : token_word t ≡ w = ap trimmed e ∙ trimmed_numeral (48 - length w) w h in
+    ap token_value (sym word_is) ∙ token_again t (record { size = omega arith; bytes = spelled_bytes t.0 all })
+
+pub token_other : (w : List ℕ) → (length w ≤ 48 → AreNumeral w → ⊥) → token_value w ≡ None
+token_other w h =
+    none_unless (token_value w) (λ t e.
+    let k = token_takes w t e in
+    let long : length (encode_lower t.0) ≡ 2 * length t.0 = length-encode_with lower_digits t.0 in
+    let short : length w ≤ 48 = omega (arith, ap (λ (v : List ℕ). length v) k.0, length-trimmed (encode_lower t.0), long, k.1.size) in
+    h short (subst AreNumeral (sym k.0) (numeral_trimmed (encode_lower t.0) (omega (arith, long, k.1.size)) (encoded_digits t.0 k.1.bytes))))
 
 pub token_field : Field token_at (λ t. word (token_word t)) IsToken
 unfolding token_at
@@ -244,6 +267,33 @@ payload_again (b ∷ bytes) h =
     let short : leb (length (encode_lower (b ∷ bytes))) 8192 ≡ true = le-leb _ _ (omega (arith, long, h.short)) in
     let some : ltb 0 (length (b ∷ bytes)) ≡ true = lt-ltb _ _ (omega arith) in
     rw (no_dot, short, decode_of-encode_lower (b ∷ bytes) h.bytes, some, is_itself (encode_lower (b ∷ bytes))) refl
+
+pub payload_read : (w : List ℕ) → 2 ≤ length w → length w ≤ 8192 → length w % 2 ≡ 0 → list_all is_digit w ≡ true → payload_value w ≡ Some (decoded w)
+payload_read w some short even all =
+    let d = decodes w all even in
+    let size : 2 * length (decoded w) ≡ length w = length-decoded w all even in
+    let word_is : payload_word (decoded w) ≡ w = nonempty_word (decoded w) (omega arith) ∙ d.again in
+    ap payload_value (sym word_is) ∙ payload_again (decoded w) (record { short = omega arith; bytes = d.bytes })
+
+pub payload_dot : (w : List ℕ) → bytes_eq w (codes ".") ≡ true → payload_value w ≡ Some (decoded [])
+unfolding payload_value
+payload_dot w h = rw (h, decoded-nil) refl
+
+-- what is spelled otherwise is no payload
+word_of_payload : (w p : List ℕ) → IsPayload p → w ≡ payload_word p → (w ≡ codes ".") ⊎ ((2 ≤ length w) × (length w ≤ 8192) × (length w % 2 ≡ 0) × (list_all is_digit w ≡ true))
+word_of_payload w [] h e = inl e
+word_of_payload w (b ∷ bytes) h e =
+    let long : length w ≡ 2 * length (b ∷ bytes) = ap (λ (v : List ℕ). length v) e ∙ length-encode_with lower_digits (b ∷ bytes) in
+    inr (omega arith, omega (arith, h.short), omega arith, ap (list_all is_digit) e ∙ encoded_digits (b ∷ bytes) h.bytes)
+
+pub payload_other : (w : List ℕ) → bytes_eq w (codes ".") ≡ false → (2 ≤ length w → length w ≤ 8192 → length w % 2 ≡ 0 → list_all is_digit w ≡ true → ⊥) → payload_value w ≡ None
+payload_other w dot h =
+    none_unless (payload_value w) (λ p e.
+    let t = payload_takes w p e in
+    elim (word_of_payload w p t.1 t.0) [
+      | inl d ↦ absurd (cc (dot, (bytes_eq-Decides w (codes ".")).1 d))
+      | inr d ↦ h d.0 d.1 d.2 d.3
+    ])
 
 payload_no_space : (p : List ℕ) → IsPayload p → NoSpace (payload_word p)
 payload_no_space [] h = (refl, tt)

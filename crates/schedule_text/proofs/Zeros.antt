@@ -1,8 +1,11 @@
 -- Digits without the zeros in front.
-use Rattle.std.proofs.Common.{◌≡◌, ◌≢◌, ℕ, suc, ◌+◌, ◌-◌, ◌<◌, ◌≤◌, Bool, true, false, cond, eqb, List, [], ◌∷◌, ◌++◌, length, take, drop, get_or, replicate, refl, sym, ap, arith, add-one, drop-cons, length-drop}
-use Rattle.std.proofs.lemmas.Bool.{ne_eqb, eqb-true}
+use Rattle.std.proofs.Common.{◌≡◌, ◌≢◌, ℕ, zero, suc, ◌+◌, ◌-◌, ◌<◌, ◌≤◌, Bool, true, false, cond, eqb, List, [], ◌∷◌, ◌++◌, length, take, drop, get_or, replicate, refl, sym, ap, arith, add-one, drop-cons, length-drop, length-append, ◌∙◌}
+use Rattle.std.specs.List.{list_all}
+use Rattle.std.proofs.lemmas.Bool.{ne_eqb, eqb-true, eq-eqb, and_parts}
+use Rattle.std.proofs.lemmas.List.Folds.{list_all-append}
 use Rattle.std.proofs.lemmas.List.{append-nil, take-replicate}
 use borrow.Rule.Slice.PartMut.{put_mid, post_of, Post-is}
+use Rattle.schedule_text.specs.Reading.{is_digit, AreNumeral}
 use Rattle.schedule_text.specs.Words.{trimmed}
 
 -- what has at most one digit, or another digit than 0 in front, stays
@@ -75,3 +78,34 @@ zeros_before w le =
     let front : take (48 - length w) zeros ≡ replicate (48 - length w) 48 = take-replicate (48 - length w) 48 48 (omega arith) in
     let back : post_of (48 - length w) (48 - (48 - length w)) zeros ≡ [] = Post-is (48 - length w) 48 zeros (omega arith) in
     rw (front, back) (ap (λ (v : List ℕ). replicate (48 - length w) 48 ++ v) (append-nil w))
+
+-- ---- numerals
+
+-- a numeral behind zeros is trimmed to itself
+pub trimmed_numeral : (k : ℕ) (w : List ℕ) → AreNumeral w → trimmed (replicate k 48 ++ w) ≡ w
+trimmed_numeral zero [] h = absurd (omega (arith, h.some))
+trimmed_numeral zero (d ∷ []) h = trimmed_short (d ∷ []) (omega arith)
+trimmed_numeral zero (d ∷ (e ∷ rest)) h = trimmed_cons d (e ∷ rest) (λ z. absurd (omega (arith, h.front z)))
+trimmed_numeral (suc k) w h =
+    let some : 1 ≤ length (replicate k 48 ++ w) = omega (arith, length-append (replicate k 48) w, h.some) in
+    trimmed_zero (replicate k 48 ++ w) some ∙ trimmed_numeral k w h
+
+kept_numeral : (b : Bool) (d e : ℕ) (rest : List ℕ) → eqb d 48 ≡ b → list_all is_digit (d ∷ (e ∷ rest)) ≡ true → AreNumeral (trimmed (e ∷ rest)) → AreNumeral (cond b (trimmed (e ∷ rest)) (d ∷ (e ∷ rest)))
+kept_numeral true d e rest is all h = h
+kept_numeral false d e rest is all h = record { some = omega arith; front = λ z. absurd (cc (is, eq-eqb d 48 z)); all = all }
+
+-- what is trimmed is a numeral
+pub numeral_trimmed : (ds : List ℕ) → 0 < length ds → list_all is_digit ds ≡ true → AreNumeral (trimmed ds)
+unfolding trimmed
+numeral_trimmed [] some all = absurd (omega arith)
+numeral_trimmed (d ∷ []) some all = record { some = omega arith; front = λ z. refl; all = all }
+numeral_trimmed (d ∷ (e ∷ rest)) some all =
+    kept_numeral (eqb d 48) d e rest refl all (numeral_trimmed (e ∷ rest) (omega arith) (and_parts (is_digit d) (list_all is_digit (e ∷ rest)) all).1)
+
+all_zeros : (n : ℕ) → list_all is_digit (replicate n 48) ≡ true
+all_zeros zero = refl
+all_zeros (suc n) = all_zeros n
+
+-- zeros in front are digits too
+pub padded_digits : (n : ℕ) (w : List ℕ) → list_all is_digit w ≡ true → list_all is_digit (replicate n 48 ++ w) ≡ true
+padded_digits n w h = rw (list_all-append is_digit (replicate n 48) w, all_zeros n, h) refl

@@ -1,5 +1,4 @@
 pub mod Words
 pub mod Spelling
-pub mod Opened
 pub mod Replies
 pub mod Reading

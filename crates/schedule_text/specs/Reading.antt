@@ -1,7 +1,9 @@
 -- Reading a line from left to right. Each value is read and then compared with its spelling.
-use Rattle.std.specs.Prelude.{◌≡◌, ℕ, ◌+◌, ◌-◌, ◌^◌, List, [], ◌∷◌, ◌++◌, length, drop, replicate, codes, Bool, false, ◌&&◌, Option, Some, None, Result, Ok, Err, nat_lt, nat_le, ◌==◌, if◌then◌else◌}
+use Rattle.std.specs.Prelude.{◌≡◌, ℕ, ◌+◌, ◌-◌, ◌%◌, ◌^◌, ◌<◌, ◌≤◌, true, List, [], ◌∷◌, ◌++◌, length, drop, slice_index, replicate, codes, Bool, false, ◌&&◌, ◌||◌, Option, Some, None, Result, Ok, Err, nat_lt, nat_le, ◌==◌, if◌then◌else◌}
+use Rattle.std.specs.Char.{is_ascii_digit}
 use Rattle.std.specs.Fmt.{digits}
-use Rattle.std.specs.List.{before_first, position_or_len}
+use Rattle.std.specs.List.{before_first, list_all, position_or_len}
+use Rattle.std.specs.Result.{result_unwrap_or}
 use Rattle.std.specs.Str.{bytes_eq}
 use Rattle.std.specs.Str.Parse.{digits_value}
 use Rattle.hex.specs.Hex.{encode_lower, decode_of, decode_sized}
@@ -12,16 +14,16 @@ use Rattle.push_model.specs.declared.ids.ChannelId.{ChannelId}
 use Rattle.push_model.specs.declared.ids.MsgId.{MsgId}
 use Rattle.push_model.specs.declared.ids.Op.{Op}
 use Rattle.push_model.specs.declared.ids.Token.{Token}
+use Rattle.push_model.specs.declared.ids.Uaid.{Uaid}
 use Rattle.push_model.specs.declared.step.Actor.{Actor}
 use Rattle.push_model.specs.declared.step.Actor.TheVariants.{Flight, Saver}
 use Rattle.push_model.specs.declared.step.Step.{Step}
-use Rattle.push_model.specs.declared.step.Step.TheVariants.{Create, Attach, Register, Begin, Direct, Store, GiveUp, Reread, Nudge, Heard, Lost, TakeCheck, FetchTopic, FetchPlain, TakeDirect, Ack, Report}
-use Rattle.push_model.specs.AskValue.{AskValue}
+use Rattle.push_model.specs.declared.step.Step.TheVariants.{Create, Attach, Register, Begin, Direct, Store, GiveUp, Reread, Nudge, Heard, Lost, TakeCheck, FetchTopic, FetchPlain, TakeDirect, Ack, Tick, Claim, Unregister, Renew, Close, Release, SaveOne, Clear, Notif, Kill, Up, Expire, DropUser, ListOrphans, ListIdle, Report}
 use Rattle.push_model.specs.SessionKey.{SessionKey}
 use Rattle.push_model.specs.Topics.{is_topic}
+use Rattle.push_model.specs.AskValue.{AskValue}
 use Rattle.schedule_text.specs.declared.fault.LineFault.{LineFault}
 use Rattle.schedule_text.specs.declared.fault.LineFault.TheVariants.{Outside, NoMemory}
-use Rattle.schedule_text.specs.Opened.{is_opened}
 use Rattle.schedule_text.specs.Spelling.{coding_of}
 use Rattle.schedule_text.specs.Words.{token_word}
 
@@ -40,12 +42,12 @@ abbrev pub Gives : {X Y : Type 0} → (X → Y) → Result X LineFault → Optio
 Gives view (Ok x) read = read ≡ Some (view x)
 Gives view (Err e) read = Fails e read
 
--- The same of a function that takes its value from the front, and leaves the rest.
-abbrev pub TakesUnless : {X Y : Type 0} → (X → Y) → Result X LineFault → Option (Y × List ℕ) → List ℕ → Type 0
-TakesUnless view (Ok x) read rest = read ≡ Some (view x, rest)
-TakesUnless view (Err e) read rest = Fails e read
+-- The same of a function that wants no memory.
+abbrev pub Reads : {X Y : Type 0} → (X → Y) → Option X → Option Y → Type 0
+Reads view (Some x) read = read ≡ Some (view x)
+Reads view None read = read ≡ None
 
--- The same of one that wants no memory.
+-- The same of one that takes its value from the front, and leaves the rest.
 abbrev pub Takes : {X Y : Type 0} → (X → Y) → Option X → Option (Y × List ℕ) → List ℕ → Type 0
 Takes view (Some x) read rest = read ≡ Some (view x, rest)
 Takes view None read rest = read ≡ None
@@ -67,6 +69,32 @@ word_at [] = None
 word_at (b ∷ bytes) = if b == 32 then Some (first_word bytes, after_word bytes) else None
 
 -- ---- values of words
+
+-- a lower-case hexadecimal digit
+abbrev pub is_digit : ℕ → Bool
+is_digit b = (nat_le 48 b && nat_le b 57) || (nat_le 97 b && nat_le b 102)
+
+-- digits, with no zero in front but in `0`
+pub record AreNumeral (w : List ℕ) : Type 0 where
+  pub some : 0 < length w
+  pub front : slice_index w 0 ≡ 48 → length w ≡ 1
+  pub all : list_all is_digit w ≡ true
+
+-- the same of decimal digits
+pub record AreDecimal (w : List ℕ) : Type 0 where
+  pub some : 0 < length w
+  pub front : slice_index w 0 ≡ 48 → length w ≡ 1
+  pub all : list_all is_ascii_digit w ≡ true
+
+-- the digits of a payload, two a byte
+pub record ArePayloadDigits (digits : List ℕ) : Type 0 where
+  pub short : length digits ≤ 8192
+  pub even : length digits % 2 ≡ 0
+  pub all : list_all is_digit digits ≡ true
+
+-- the bytes that they spell
+abbrev pub decoded : List ℕ → List ℕ
+decoded digits = result_unwrap_or (decode_of digits) []
 
 -- the number below the limit that is written so in that base
 unfoldable pub numeral_value : ℕ → ℕ → List ℕ → Option ℕ
@@ -153,16 +181,28 @@ urgency_at bytes = field_at urgency_value bytes
 unfoldable pub payload_at : List ℕ → Option (List ℕ × List ℕ)
 payload_at bytes = field_at payload_value bytes
 
+unfoldable pub moment_at : List ℕ → Option (ℕ × List ℕ)
+moment_at bytes = decimal_at 0 (2 ^ 62 - 1) bytes
+
+unfoldable pub node_at : List ℕ → Option (ℕ × List ℕ)
+node_at bytes = decimal_at 1 8 bytes
+
+abbrev pub user_of : ℕ → Uaid
+user_of n = record { 0 = n }
+
+unfoldable pub user_at : List ℕ → Option (Uaid × List ℕ)
+user_at bytes = made_at user_of hex_at bytes
+
 -- ---- fields of several words
 
-abbrev pub session_of : ℕ × (ℕ × ℕ) → SessionKey
-session_of x = record { uaid = record { 0 = x.0 }; node = x.1.0; at = x.1.1 }
+abbrev pub session_of : Uaid × (ℕ × ℕ) → SessionKey
+session_of x = record { uaid = x.0; node = x.1.0; at = x.1.1 }
 
 unfoldable pub session_at : List ℕ → Option (SessionKey × List ℕ)
-session_at bytes = made_at session_of (both hex_at (both (decimal_at 1 8) (decimal_at 0 (2 ^ 63 - 1)))) bytes
+session_at bytes = made_at session_of (both user_at (both node_at (decimal_at 0 (2 ^ 63 - 1)))) bytes
 
 abbrev pub op_of : ℕ × ℕ → Op
-op_of x = record { pass = x.0; number = x.1 }
+op_of x = record { pass = x.0; k = x.1 }
 
 unfoldable pub op_at : List ℕ → Option (Op × List ℕ)
 op_at bytes = made_at op_of (both (decimal_at 0 (2 ^ 64 - 1)) (decimal_at 0 (2 ^ 63 - 1))) bytes
@@ -212,14 +252,51 @@ at_end (b ∷ bytes) step = None
 abbrev pub line_of : {A : Type 0} → (A → Step) → (List ℕ → Option (A × List ℕ)) → List ℕ → Option Step
 line_of step read bytes = read bytes >>= λ x. at_end x.1 (step x.0)
 
+-- lines of sessions
+
 unfoldable pub create_at : List ℕ → Option Step
 create_at bytes = line_of Create session_at bytes
+
+unfoldable pub claim_at : List ℕ → Option Step
+claim_at bytes = line_of Claim session_at bytes
 
 unfoldable pub attach_at : List ℕ → Option Step
 attach_at bytes = line_of Attach session_at bytes
 
+unfoldable pub check_at : List ℕ → Option Step
+check_at bytes = line_of TakeCheck session_at bytes
+
+unfoldable pub topics_at : List ℕ → Option Step
+topics_at bytes = line_of FetchTopic session_at bytes
+
+unfoldable pub plains_at : List ℕ → Option Step
+plains_at bytes = line_of FetchPlain session_at bytes
+
+unfoldable pub take_at : List ℕ → Option Step
+take_at bytes = line_of TakeDirect session_at bytes
+
+unfoldable pub renew_at : List ℕ → Option Step
+renew_at bytes = line_of Renew session_at bytes
+
+unfoldable pub close_at : List ℕ → Option Step
+close_at bytes = line_of Close session_at bytes
+
+unfoldable pub release_at : List ℕ → Option Step
+release_at bytes = line_of Release session_at bytes
+
+unfoldable pub save_at : List ℕ → Option Step
+save_at bytes = line_of SaveOne session_at bytes
+
 unfoldable pub register_at : List ℕ → Option Step
 register_at bytes = line_of (λ x. Register x.0 x.1.0 x.1.1) (both session_at (both channel_at token_at)) bytes
+
+unfoldable pub unregister_at : List ℕ → Option Step
+unregister_at bytes = line_of (λ x. Unregister x.0 x.1) (both session_at channel_at) bytes
+
+unfoldable pub ack_at : List ℕ → Option Step
+ack_at bytes = line_of (λ x. Ack x.0 x.1.0 x.1.1) (both session_at (both channel_at id_at)) bytes
+
+-- lines of flights and of other actors
 
 unfoldable pub begin_at : List ℕ → Option Step
 begin_at bytes = line_of (λ x. Begin x.0 x.1.0 x.1.1) (both op_at (both token_at ask_at)) bytes
@@ -245,24 +322,38 @@ heard_at bytes = line_of Heard actor_at bytes
 unfoldable pub lost_at : List ℕ → Option Step
 lost_at bytes = line_of Lost actor_at bytes
 
-unfoldable pub check_at : List ℕ → Option Step
-check_at bytes = line_of TakeCheck session_at bytes
+unfoldable pub clear_at : List ℕ → Option Step
+clear_at bytes = line_of Clear actor_at bytes
 
-unfoldable pub topics_at : List ℕ → Option Step
-topics_at bytes = line_of FetchTopic session_at bytes
+-- lines of the shard
 
-unfoldable pub plains_at : List ℕ → Option Step
-plains_at bytes = line_of FetchPlain session_at bytes
+unfoldable pub tick_at : List ℕ → Option Step
+tick_at bytes = line_of Tick moment_at bytes
 
-unfoldable pub take_at : List ℕ → Option Step
-take_at bytes = line_of TakeDirect session_at bytes
+unfoldable pub notif_at : List ℕ → Option Step
+notif_at bytes = line_of (λ x. Notif x.0 x.1) (both node_at user_at) bytes
 
-unfoldable pub ack_at : List ℕ → Option Step
-ack_at bytes = line_of (λ x. Ack x.0 x.1.0 x.1.1) (both session_at (both channel_at id_at)) bytes
+unfoldable pub kill_at : List ℕ → Option Step
+kill_at bytes = line_of Kill node_at bytes
+
+unfoldable pub up_at : List ℕ → Option Step
+up_at bytes = line_of Up node_at bytes
+
+unfoldable pub expire_at : List ℕ → Option Step
+expire_at bytes = line_of Expire user_at bytes
+
+unfoldable pub drop_user_at : List ℕ → Option Step
+drop_user_at bytes = line_of DropUser user_at bytes
 
 -- no word
 abbrev pub nothing_at : List ℕ → Option (Unit {0} × List ℕ)
 nothing_at bytes = Some (tt, bytes)
+
+unfoldable pub orphans_at : List ℕ → Option Step
+orphans_at bytes = line_of (λ x. ListOrphans) nothing_at bytes
+
+unfoldable pub idle_at : List ℕ → Option Step
+idle_at bytes = line_of (λ x. ListIdle) nothing_at bytes
 
 unfoldable pub report_at : List ℕ → Option Step
 report_at bytes = line_of (λ x. Report) nothing_at bytes
@@ -272,29 +363,35 @@ abbrev pub by_verb : List (List ℕ × (List ℕ → Option Step)) → List ℕ 
 by_verb [] w bytes = None
 by_verb (line ∷ lines) w bytes = if bytes_eq w line.0 then line.1 bytes else by_verb lines w bytes
 
--- each verb, and how what stands behind it is read; the first alone has a payload
-abbrev pub other_verbs : List (List ℕ × (List ℕ → Option Step))
-other_verbs =
-    (codes "create", create_at) ∷ (codes "attach", attach_at) ∷ (codes "register", register_at) ∷ (codes "direct", direct_at)
-    ∷ (codes "store", store_at) ∷ (codes "giveup", give_up_at) ∷ (codes "reread", reread_at) ∷ (codes "nudge", nudge_at)
-    ∷ (codes "heard", heard_at) ∷ (codes "lost", lost_at) ∷ (codes "check", check_at) ∷ (codes "topics", topics_at)
-    ∷ (codes "plains", plains_at) ∷ (codes "take", take_at) ∷ (codes "ack", ack_at) ∷ (codes "report", report_at) ∷ []
+-- each verb, and how what stands behind it is read
+abbrev pub shard_verbs : List (List ℕ × (List ℕ → Option Step))
+shard_verbs =
+    (codes "tick", tick_at) ∷ (codes "notif", notif_at) ∷ (codes "kill", kill_at) ∷ (codes "up", up_at) ∷ (codes "expire", expire_at) ∷ (codes "drop", drop_user_at) ∷ (codes "orphans", orphans_at) ∷ (codes "idle", idle_at) ∷ (codes "report", report_at) ∷ []
 
+abbrev pub flight_verbs : List (List ℕ × (List ℕ → Option Step))
+flight_verbs =
+    (codes "direct", direct_at) ∷ (codes "store", store_at) ∷ (codes "giveup", give_up_at) ∷ (codes "reread", reread_at) ∷ (codes "nudge", nudge_at) ∷ (codes "heard", heard_at) ∷ (codes "lost", lost_at) ∷ (codes "clear", clear_at) ∷ shard_verbs
+
+abbrev pub session_verbs : List (List ℕ × (List ℕ → Option Step))
+session_verbs =
+    (codes "create", create_at) ∷ (codes "claim", claim_at) ∷ (codes "attach", attach_at) ∷ (codes "check", check_at) ∷ (codes "topics", topics_at) ∷ (codes "plains", plains_at) ∷ (codes "take", take_at) ∷ (codes "renew", renew_at) ∷ (codes "close", close_at) ∷ (codes "release", release_at) ∷ (codes "save", save_at) ∷ (codes "register", register_at) ∷ (codes "unregister", unregister_at) ∷ (codes "ack", ack_at) ∷ flight_verbs
+
+-- the first alone has a payload
 abbrev pub verbs : List (List ℕ × (List ℕ → Option Step))
-verbs = (codes "begin", begin_at) ∷ other_verbs
+verbs = (codes "begin", begin_at) ∷ session_verbs
 
--- the step of a line of the whole grammar
-unfoldable pub whole_line_at : List ℕ → Option Step
-whole_line_at line = by_verb verbs (first_word line) (after_word line)
-
--- the step of a line, as far as the grammar is opened
 unfoldable pub line_at : List ℕ → Option Step
-line_at line = do
-  s ← whole_line_at line
-  if is_opened s then Some s else None
+line_at line = by_verb verbs (first_word line) (after_word line)
 
--- want of memory comes only from a line that begins a flight
-abbrev pub IsOfBegin : Result Step LineFault → List ℕ → Type 0
-IsOfBegin (Ok s) line = Unit {0}
-IsOfBegin (Err Outside) line = Unit {0}
-IsOfBegin (Err NoMemory) line = first_word line ≡ codes "begin"
+-- ---- memory
+
+-- the begin of a message with a payload
+abbrev pub HasPayload : Step → Type 0
+HasPayload (Begin o t a) = 0 < length a.payload
+HasPayload _ = ⊥
+
+-- Memory is wanted only for the payload of such a step.
+abbrev pub WantsFor : (Step → Type 0) → Result Step LineFault → Type 0
+WantsFor Such (Ok s) = Unit {0}
+WantsFor Such (Err Outside) = Unit {0}
+WantsFor Such (Err NoMemory) = (s : Step) × (Such s × HasPayload s)

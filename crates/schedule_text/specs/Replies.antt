@@ -1,10 +1,13 @@
 -- The line of each reply, with its LF.
-use Rattle.std.specs.Prelude.{ℕ, List, [], ◌∷◌, ◌++◌, codes, decimal, Option, Some, None}
+use Rattle.std.specs.Prelude.{◌≡◌, ℕ, List, [], ◌∷◌, ◌++◌, codes, decimal, Option, Some, None}
 use Rattle.std.specs.List.{flat_map}
+use Rattle.push_model.specs.declared.ids.Uaid.{Uaid}
 use Rattle.push_model.specs.declared.reply.AckedFrom.{AckedFrom}
 use Rattle.push_model.specs.declared.reply.AckedFrom.TheVariants.{Direct as FromDirect, Stored as FromStored}
+use Rattle.push_model.specs.declared.reply.Reason.{Reason}
+use Rattle.push_model.specs.declared.reply.Reason.TheVariants.{Channel, Zero, Expired, Replaced}
 use Rattle.push_model.specs.declared.reply.Reply.{Reply}
-use Rattle.push_model.specs.declared.reply.Reply.TheVariants.{Made, Taken, NotClaimed, NodeDown, Outrun, Attached, Endpoint, TokenTaken, NoSession, NoFlight, Stage as StageIs, NoToken, IdsSpent, Begun, Here, NotHere, Stored, Names, End, Moved, Due, NotDue, Page, Acked, Unknown, Counts as CountsAre}
+use Rattle.push_model.specs.declared.reply.Reply.TheVariants.{Made, Taken, NotClaimed, NodeDown, Outrun, Attached, Endpoint, TokenTaken, NoSession, NoFlight, Stage as StageIs, NoToken, IdsSpent, Begun, Here, NotHere, Stored, Names, End, Moved, Due, NotDue, Page, Acked, Unknown, Counts as CountsAre, Done, NoUser, Stale, Claimed, Renewed, Kept, Cleared, Saving as SavingIs, Saved, Left, AllSaved, Dropped, Killed, Users as UsersAre}
 use Rattle.push_model.specs.declared.step.Stage.{Stage}
 use Rattle.push_model.specs.declared.step.Stage.TheVariants.{Direct, Told, Store, Reread, Nudge, ToldNudge, Clear, Saving, Idle, Topic, Plain, Displaced}
 use Rattle.push_model.specs.MessageValue.{MessageValue}
@@ -36,6 +39,12 @@ abbrev pub list_word : AckedFrom → List ℕ
 list_word FromDirect = codes "direct"
 list_word FromStored = codes "stored"
 
+abbrev pub reason_word : Reason → List ℕ
+reason_word Channel = codes "channel"
+reason_word Zero = codes "zero"
+reason_word Expired = codes "expired"
+reason_word Replaced = codes "replaced"
+
 -- a node and a moment, or a dot for none
 abbrev pub place_words : Option (ℕ × ℕ) → List ℕ
 place_words None = word (codes ".")
@@ -44,6 +53,10 @@ place_words (Some p) = word (decimal p.0) ++ word (decimal p.1)
 -- the number of its id, its channel and its payload
 abbrev pub message_word : MessageValue → List ℕ
 message_word m = decimal m.id.number ++ (58 ∷ (hex m.chid.0 ++ (58 ∷ payload_word m.ask.payload)))
+
+-- a user, and the node and the moment of its route row
+abbrev pub user_word : Uaid × Option ℕ × ℕ → List ℕ
+user_word u = hex u.0.0 ++ (58 ∷ (or_dot u.1 ++ (58 ∷ decimal u.2)))
 
 abbrev pub reply_line : Reply → List ℕ
 reply_line Made = codes "made\n"
@@ -71,7 +84,25 @@ reply_line NotDue = codes "notdue\n"
 reply_line (Page messages) = codes "page" ++ (flat_map (λ m. word (message_word m)) messages ++ lf)
 reply_line (Acked from) = codes "acked" ++ (word (list_word from) ++ lf)
 reply_line Unknown = codes "unknown\n"
+reply_line Done = codes "done\n"
+reply_line NoUser = codes "nouser\n"
+reply_line (Stale a) = codes "stale" ++ (word (decimal a) ++ lf)
+reply_line (Claimed node) = codes "claimed" ++ (word (or_dot node) ++ lf)
+reply_line Renewed = codes "renewed\n"
+reply_line Kept = codes "kept\n"
+reply_line Cleared = codes "cleared\n"
+reply_line (SavingIs n) = codes "saving" ++ (word (decimal n) ++ lf)
+reply_line (Saved i) = codes "saved" ++ (word (decimal i.number) ++ lf)
+reply_line (Left i why) = codes "left" ++ (word (decimal i.number) ++ (word (reason_word why) ++ lf))
+reply_line AllSaved = codes "allsaved\n"
+reply_line Dropped = codes "dropped\n"
+reply_line (Killed held orphans) = codes "killed" ++ (word (decimal held) ++ (word (decimal orphans) ++ lf))
+reply_line (UsersAre users) = codes "users" ++ (flat_map (λ u. word (user_word u)) users ++ lf)
 reply_line (CountsAre c) =
     codes "report users" ++ (word (decimal c.users) ++ (codes " stored" ++ (word (decimal c.stored) ++ (codes " held" ++ (word (decimal c.held)
     ++ (codes " flights" ++ (word (decimal c.flights) ++ (codes " unsent" ++ (word (decimal c.unsent) ++ (codes " orphans" ++ (word (decimal c.orphans)
     ++ (codes " waiting" ++ (word (decimal c.waiting) ++ lf)))))))))))))
+
+-- a line that ends by saying that nothing waits
+abbrev pub SaysNoneWaits : List ℕ → Type 0
+SaysNoneWaits line = (front : List ℕ) × (line ≡ front ++ codes " waiting 0\n")

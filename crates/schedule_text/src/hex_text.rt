@@ -1,8 +1,9 @@
 //! Numbers and tokens in lower-case hexadecimal digits.
-ghost use Rattle.std.specs.Prelude.{◌≡◌, ◌<◌, ◌≤◌, false, drop, length};
-ghost use Rattle.std.specs.Fmt.{digit_glyph, digits};
+ghost use Rattle.std.specs.Prelude.{◌≡◌, ◌≤◌, false, drop, length};
+ghost use Rattle.std.specs.Fmt.{digits};
 ghost use Rattle.schedule_text.specs.Words.{token_word, trimmed};
 
+use crate::digits::glyph;
 use push_model::Token;
 use std::marker::Model;
 use std::{fmt, str};
@@ -30,17 +31,6 @@ impl Model for HexText {
     ghost view = { λ t. drop t.start t.digits };
 
     ghost invariant = { λ t. t.start ≤ 32 };
-}
-
-fn glyph(digit: u8) -> u8
-    requires { digit < 16 }
-    ensures { result ≡ digit_glyph false digit }
-{
-    if digit < 10 {
-        b'0' + digit
-    } else {
-        b'a' - 10 + digit
-    }
 }
 
 impl HexText {

@@ -5,14 +5,21 @@
 //! spelled so, and what is spelled so is read.
 #![tactic(auto)]
 
+mod begin;
+mod digits;
 mod fault;
+mod flight_lines;
 mod hex_text;
+pub mod laws;
 mod line;
-mod opened;
 mod print;
 mod reply;
+mod session_lines;
+mod shard_lines;
+mod spaces;
 mod values;
 mod words;
+mod writing;
 
 pub use fault::LineFault;
 pub use line::read_line;

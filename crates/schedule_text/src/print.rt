@@ -1,11 +1,11 @@
 //! The line of a step.
-ghost use Rattle.std.specs.Prelude.{◌≡◌, IfOk};
+ghost use Rattle.std.specs.Prelude.{◌≡◌, ◌++◌, IfOk, decimal};
 ghost use Rattle.std.specs.String.{string_bytes};
-ghost use Rattle.schedule_text.specs.Spelling.{spell, ask_words};
-ghost use Rattle.schedule_text.specs.Words.{urgency_word, payload_word};
+ghost use Rattle.schedule_text.specs.Spelling.{spell, user_words, session_words, op_words, actor_words, ask_words};
+ghost use Rattle.schedule_text.specs.Words.{word, urgency_word, payload_word};
 
 use crate::hex_text::{Hex, TokenWord};
-use push_model::{Actor, Ask, Blob, NoMemory, Op, SessionId, Step, Text, Topic, Urgency};
+use push_model::{Actor, Ask, Blob, NoMemory, Op, SessionId, Step, Text, Topic, Uaid, Urgency};
 use std::alloc::{AllocError, Global};
 use std::{fmt, str};
 
@@ -42,7 +42,7 @@ impl fmt::Display for OpWords {
     ghost output = { λ w. Some (op_words w.0) };
 
     fn fmt<W: fmt::Write>(&self, f: &mut fmt::Formatter<W>) -> fmt::Result {
-        write!(f, " {} {}", self.0.pass, self.0.number)
+        write!(f, " {} {}", self.0.pass, self.0.k)
     }
 }
 
@@ -121,12 +121,42 @@ fn ask_words(alloc: Global, ask: &Ask) -> Result<String, AllocError>
     )
 }
 
+fn session_line(alloc: Global, verb: &str, session: SessionId) -> Result<String, AllocError>
+    ensures { IfOk result (λ text. string_bytes text ≡ verb.now ++ session_words session) }
+{
+    format!(in alloc; "{verb}{}", SessionWords(session))
+}
+
+fn op_line(alloc: Global, verb: &str, op: Op) -> Result<String, AllocError>
+    ensures { IfOk result (λ text. string_bytes text ≡ verb.now ++ op_words op) }
+{
+    format!(in alloc; "{verb}{}", OpWords(op))
+}
+
+fn actor_line(alloc: Global, verb: &str, actor: Actor) -> Result<String, AllocError>
+    ensures { IfOk result (λ text. string_bytes text ≡ verb.now ++ actor_words actor) }
+{
+    format!(in alloc; "{verb}{}", ActorWords(actor))
+}
+
+fn user_line(alloc: Global, verb: &str, user: Uaid) -> Result<String, AllocError>
+    ensures { IfOk result (λ text. string_bytes text ≡ verb.now ++ user_words user) }
+{
+    format!(in alloc; "{verb} {}", Hex(user.0))
+}
+
+fn number_line(alloc: Global, verb: &str, number: u64) -> Result<String, AllocError>
+    ensures { IfOk result (λ text. string_bytes text ≡ verb.now ++ word (decimal number)) }
+{
+    format!(in alloc; "{verb} {number}")
+}
+
 fn step_words(alloc: Global, step: &Step) -> Result<String, AllocError>
     ensures { IfOk result (λ text. string_bytes text ≡ spell step.now) }
 {
     match step {
-        Step::Create(s) => format!(in alloc; "create{}", SessionWords(*s)),
-        Step::Attach(s) => format!(in alloc; "attach{}", SessionWords(*s)),
+        Step::Create(s) => session_line(alloc, "create", *s),
+        Step::Attach(s) => session_line(alloc, "attach", *s),
         Step::Register(s, h, t) => {
             format!(in alloc;
                 "register{} {} {}",
@@ -139,20 +169,35 @@ fn step_words(alloc: Global, step: &Step) -> Result<String, AllocError>
             let ask = ask_words(alloc, ask)?;
             format!(in alloc; "begin{} {}{ask}", OpWords(*o), TokenWord(*t))
         }
-        Step::Direct(o) => format!(in alloc; "direct{}", OpWords(*o)),
-        Step::Store(o) => format!(in alloc; "store{}", OpWords(*o)),
-        Step::GiveUp(o) => format!(in alloc; "giveup{}", OpWords(*o)),
-        Step::Reread(actor) => format!(in alloc; "reread{}", ActorWords(*actor)),
-        Step::Nudge(actor) => format!(in alloc; "nudge{}", ActorWords(*actor)),
-        Step::Heard(actor) => format!(in alloc; "heard{}", ActorWords(*actor)),
-        Step::Lost(actor) => format!(in alloc; "lost{}", ActorWords(*actor)),
-        Step::TakeCheck(s) => format!(in alloc; "check{}", SessionWords(*s)),
-        Step::FetchTopic(s) => format!(in alloc; "topics{}", SessionWords(*s)),
-        Step::FetchPlain(s) => format!(in alloc; "plains{}", SessionWords(*s)),
-        Step::TakeDirect(s) => format!(in alloc; "take{}", SessionWords(*s)),
+        Step::Direct(o) => op_line(alloc, "direct", *o),
+        Step::Store(o) => op_line(alloc, "store", *o),
+        Step::GiveUp(o) => op_line(alloc, "giveup", *o),
+        Step::Reread(actor) => actor_line(alloc, "reread", *actor),
+        Step::Nudge(actor) => actor_line(alloc, "nudge", *actor),
+        Step::Heard(actor) => actor_line(alloc, "heard", *actor),
+        Step::Lost(actor) => actor_line(alloc, "lost", *actor),
+        Step::TakeCheck(s) => session_line(alloc, "check", *s),
+        Step::FetchTopic(s) => session_line(alloc, "topics", *s),
+        Step::FetchPlain(s) => session_line(alloc, "plains", *s),
+        Step::TakeDirect(s) => session_line(alloc, "take", *s),
         Step::Ack(s, h, i) => {
             format!(in alloc; "ack{} {} {}", SessionWords(*s), Hex(h.0), i.number)
         }
+        Step::Tick(moment) => number_line(alloc, "tick", moment.seconds()),
+        Step::Claim(s) => session_line(alloc, "claim", *s),
+        Step::Unregister(s, h) => format!(in alloc; "unregister{} {}", SessionWords(*s), Hex(h.0)),
+        Step::Renew(s) => session_line(alloc, "renew", *s),
+        Step::Close(s) => session_line(alloc, "close", *s),
+        Step::Release(s) => session_line(alloc, "release", *s),
+        Step::SaveOne(s) => session_line(alloc, "save", *s),
+        Step::Clear(actor) => actor_line(alloc, "clear", *actor),
+        Step::Notif(node, user) => format!(in alloc; "notif {} {}", node.get(), Hex(user.0)),
+        Step::Kill(node) => number_line(alloc, "kill", u64::from(node.get())),
+        Step::Up(node) => number_line(alloc, "up", u64::from(node.get())),
+        Step::Expire(user) => user_line(alloc, "expire", *user),
+        Step::DropUser(user) => user_line(alloc, "drop", *user),
+        Step::ListOrphans => String::from_str(alloc, "orphans"),
+        Step::ListIdle => String::from_str(alloc, "idle"),
         Step::Report => String::from_str(alloc, "report"),
     }
 }

@@ -1,48 +1,32 @@
 //! The values of words. A word is a value's only where it is the value's one spelling.
-ghost use Rattle.std.specs.Prelude.{◌≡◌, ◌+◌, ◌^◌, ◌≤◌, ◌++◌, IfSome, IfOk, length, replicate};
-ghost use Rattle.std.specs.Str.{bytes_eq};
-ghost use Rattle.hex.specs.Hex.{encode_lower};
-ghost use Rattle.schedule_text.specs.Reading.{Gives, padded, numeral_value, decimal_value, token_value, topic_value, urgency_value, payload_value};
+ghost use Rattle.std.specs.Prelude.{◌≡◌, ◌+◌, ◌^◌, ◌<◌, ◌≤◌, ◌++◌, IfSome, IfOk, OnErr, length, replicate};
+ghost use Rattle.schedule_text.specs.Reading.{Reads, padded, numeral_value, decimal_value, token_value, topic_value, urgency_value, payload_value, decoded, ArePayloadDigits};
 
-use crate::fault::LineFault;
-use crate::hex_text::{HexText, TokenText};
-use hex::FromHexError;
-use itoa::Buffer;
+use crate::digits;
 use push_model::{Blob, Token, Topic, Urgency};
-use std::alloc::Global;
-use std::str;
+use std::alloc::{AllocError, Global};
 
 /// The number of 1 to 32 hexadecimal digits.
 pub fn hex_value(word: &[u8]) -> Option<u128>
     ensures { result ≡ numeral_value 16 (2 ^ 128) word.now }
 {
-    let Ok(text) = str::from_utf8(word) else {
+    if word.len() > 32 || !digits::are_numeral(word) {
         return None;
-    };
-    let Ok(number) = u128::from_str_radix(text, 16) else {
-        return None;
-    };
-    if HexText::of(number).bytes() == word {
-        Some(number)
-    } else {
-        None
     }
+    Some(digits::number_of(word))
 }
 
-/// The decimal number up to `high`.
+/// The decimal number up to `high`, which has at most 20 digits.
 fn numeral_value(high: u64, word: &[u8]) -> Option<u64>
     ensures value { result ≡ numeral_value 10 (high + 1) word.now }
     ensures within { IfSome result (λ n. n ≤ high) }
 {
-    let Ok(text) = str::from_utf8(word) else {
+    if word.len() > 20 || !digits::are_decimal(word) {
         return None;
-    };
-    let Ok(number) = text.parse::<u64>() else {
-        return None;
-    };
-    let mut buffer = Buffer::new();
-    if number <= high && buffer.format(number).as_bytes() == word {
-        Some(number)
+    }
+    let number = digits::decimal_of(word);
+    if number <= u128::from(high) {
+        Some(number as u64)
     } else {
         None
     }
@@ -70,23 +54,15 @@ fn padded(word: &[u8]) -> [u8; 48]
 }
 
 /// The token of 1 to 48 hexadecimal digits.
-#[tactic(auto, unfolding(crate::specs::Reading::token_value))]
 pub fn token_value(word: &[u8]) -> Option<Token>
     ensures { result ≡ token_value word.now }
 {
-    if word.len() > 48 {
+    if word.len() > 48 || !digits::are_numeral(word) {
         return None;
     }
     let mut bytes = [0; 24];
-    if hex::decode_to_slice(&padded(word)[..], &mut bytes).is_err() {
-        return None;
-    }
-    let token = Token(bytes);
-    if TokenText::of(&token).bytes() == word {
-        Some(token)
-    } else {
-        None
-    }
+    digits::decode(&padded(word)[..], &mut bytes);
+    Some(Token(bytes))
 }
 
 /// The topic, or none for a dot. It takes no memory.
@@ -121,40 +97,35 @@ pub fn urgency_value(word: &[u8]) -> Option<Urgency>
     }
 }
 
-/// Whether the word is the lower-case digits of these bytes, two a byte.
-fn is_spelled(bytes: &[u8], word: &[u8]) -> bool
-    requires { length word.now ≤ 8192 }
-    ensures { result ≡ bytes_eq (encode_lower bytes.now) word.now }
-{
-    if word.len() != 2 * bytes.len() {
-        return false;
-    }
-    let mut buffer = [0; 8192];
-    let spelled = &mut buffer[..word.len()];
-    let written = hex::encode_to_slice(bytes, &mut *spelled);
-    prove!(written.is_ok());
-    &*spelled == word
-}
-
-/// The bytes of 2 to 8,192 digits, or none for a dot. Only these bytes take memory.
-#[tactic(auto, unfolding(crate::specs::Reading::payload_value))]
-pub fn payload_value(alloc: Global, word: &[u8]) -> Result<Blob, LineFault>
-    ensures value { Gives (λ p. p) result (payload_value word.now) }
-    ensures short { IfOk result (λ p. length p ≤ 4096) }
+/// The digits of a payload of 1 to 4,096 bytes, or no digits for a dot.
+pub fn payload_value(word: &[u8]) -> Option<&[u8]>
+    ensures value { Reads (λ d. decoded d.now) result (payload_value word.now) }
+    ensures digits { IfSome result (λ d. ArePayloadDigits d.now) }
 {
     if word == b".".as_slice() {
+        return Some(&[]);
+    }
+    if word.len() < 2 || word.len() > 8192 || word.len() % 2 != 0 {
+        return None;
+    }
+    if digits::are_digits(word) {
+        Some(word)
+    } else {
+        None
+    }
+}
+
+/// The bytes of the digits of a payload. Only these bytes take memory.
+pub fn payload_of(alloc: Global, digits: &[u8]) -> Result<Blob, AllocError>
+    requires { ArePayloadDigits digits.now }
+    ensures value { IfOk result (λ p. p ≡ decoded digits.now) }
+    ensures short { IfOk result (λ p. length p ≤ 4096) }
+    ensures wanted { OnErr result (0 < length (decoded digits.now)) }
+{
+    if digits.is_empty() {
         return Ok(Blob::from_vec(Vec::new(alloc)));
     }
-    if word.len() > 8192 {
-        return Err(LineFault::Outside);
-    }
-    let bytes = match hex::decode(alloc, word) {
-        Ok(bytes) => bytes,
-        Err(FromHexError::OutOfMemory) => return Err(LineFault::NoMemory),
-        Err(_) => return Err(LineFault::Outside),
-    };
-    if bytes.is_empty() || !is_spelled(&bytes, word) {
-        return Err(LineFault::Outside);
-    }
+    let mut bytes = vec![in alloc; 0; digits.len() / 2]?;
+    digits::decode(digits, &mut bytes);
     Ok(Blob::from_vec(bytes))
 }

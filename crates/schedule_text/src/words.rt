@@ -1,14 +1,12 @@
 //! A line, read word by word from the left.
-ghost use Rattle.std.specs.Prelude.{◌≡◌, ◌≤◌, IfOk, IfSome, length, position};
-ghost use Rattle.schedule_text.specs.Reading.{Takes, TakesUnless, both, is_space, first_word, after_word, word_at, hex_at, decimal_at, token_at, topic_at, urgency_at, payload_at, session_at, op_at, channel_at, id_at, actor_at, ask_at, ask_of, at_end};
+ghost use Rattle.std.specs.Prelude.{◌≡◌, ◌==◌, ◌≤◌, IfSome, length, position};
+ghost use Rattle.schedule_text.specs.Reading.{Takes, both, is_space, first_word, after_word, word_at, hex_at, decimal_at, moment_at, node_at, user_at, token_at, topic_at, urgency_at, payload_at, session_at, op_at, channel_at, id_at, actor_at, at_end, decoded, ArePayloadDigits};
 
-use crate::fault::LineFault;
+use crate::spaces::word_length;
 use crate::values;
 use push_model::{
-    Actor, Ask, Blob, ChannelId, Coding, MsgId, NodeId, Op, SessionId, Step, Terms, Token, Topic,
-    Uaid, Urgency,
+    Actor, ChannelId, Moment, MsgId, NodeId, Op, SessionId, Step, Token, Topic, Uaid, Urgency,
 };
-use std::alloc::Global;
 use std::marker::Model;
 
 /// The last moment, and the last number of a flight and of a message.
@@ -19,16 +17,7 @@ fn cut(bytes: &[u8]) -> (&[u8], &[u8])
     ensures front { result.0.now ≡ first_word bytes.now }
     ensures back { result.1.now ≡ after_word bytes.now }
 {
-    match first_space(bytes) {
-        Some(at) => bytes.split_at(at),
-        None => (bytes, &[]),
-    }
-}
-
-fn first_space(bytes: &[u8]) -> Option<usize>
-    ensures { result ≡ position is_space bytes.now }
-{
-    bytes.iter().position(|b| *b == b' ')
+    bytes.split_at(word_length(bytes))
 }
 
 /// The words that are still to be read. Contracts see the bytes from the space in front of them on. Each method reads
@@ -54,6 +43,13 @@ impl<'a> Words<'a> {
     {
         let (first, rest) = cut(line);
         (first, Words { rest })
+    }
+
+    /// Whether no word is left.
+    pub fn is_empty(&self) -> bool
+        ensures { result ≡ (length self.now == 0) }
+    {
+        self.rest.is_empty()
     }
 
     /// The step, where no word is left.
@@ -97,8 +93,18 @@ impl<'a> Words<'a> {
         values::decimal_value(low, high, self.word()?)
     }
 
-    fn node(&mut self) -> Option<NodeId>
-        ensures { Takes (λ n. n) result (decimal_at 1 8 self.old) self.new }
+    /// A moment of the clock.
+    #[tactic(auto, unfolding(crate::specs::Reading::moment_at))]
+    pub fn moment(&mut self) -> Option<Moment>
+        ensures { Takes (λ m. m) result (moment_at self.old) self.new }
+    {
+        Moment::new(self.decimal(0, (1 << 62) - 1)?)
+    }
+
+    /// A node.
+    #[tactic(auto, unfolding(crate::specs::Reading::node_at))]
+    pub fn node(&mut self) -> Option<NodeId>
+        ensures { Takes (λ n. n) result (node_at self.old) self.new }
     {
         let number = self.decimal(1, 8)?;
         NodeId::new(number as u8)
@@ -126,13 +132,21 @@ impl<'a> Words<'a> {
         values::urgency_value(self.word()?)
     }
 
+    /// The digits of a payload.
     #[tactic(auto, unfolding(crate::specs::Reading::payload_at))]
-    fn payload(&mut self, alloc: Global) -> Result<Blob, LineFault>
-        ensures value { TakesUnless (λ p. p) result (payload_at self.old) self.new }
-        ensures short { IfOk result (λ p. length p ≤ 4096) }
+    pub fn payload(&mut self) -> Option<&'a [u8]>
+        ensures value { Takes (λ d. decoded d.now) result (payload_at self.old) self.new }
+        ensures digits { IfSome result (λ d. ArePayloadDigits d.now) }
     {
-        let word = self.word().ok_or(LineFault::Outside)?;
-        values::payload_value(alloc, word)
+        values::payload_value(self.word()?)
+    }
+
+    /// A user.
+    #[tactic(auto, unfolding(crate::specs::Reading::user_at))]
+    pub fn user(&mut self) -> Option<Uaid>
+        ensures { Takes (λ u. u) result (user_at self.old) self.new }
+    {
+        Some(Uaid(self.hex()?))
     }
 
     /// A user, a node and a moment.
@@ -140,7 +154,7 @@ impl<'a> Words<'a> {
     pub fn session(&mut self) -> Option<SessionId>
         ensures { Takes (λ s. s) result (session_at self.old) self.new }
     {
-        let uaid = Uaid(self.hex()?);
+        let uaid = self.user()?;
         let node = self.node()?;
         let at = self.decimal(0, LAST)?;
         Some(SessionId { uaid, node, at })
@@ -152,8 +166,8 @@ impl<'a> Words<'a> {
         ensures { Takes (λ o. o) result (op_at self.old) self.new }
     {
         let pass = self.decimal(0, u64::MAX)?;
-        let number = self.decimal(0, LAST)?;
-        Some(Op { pass, number })
+        let k = self.decimal(0, LAST)?;
+        Some(Op { pass, k })
     }
 
     /// A channel.
@@ -188,7 +202,8 @@ impl<'a> Words<'a> {
         }
     }
 
-    fn terms(&mut self) -> Option<(u32, Option<Topic>, Urgency)>
+    /// A ttl, a topic and an urgency.
+    pub fn terms(&mut self) -> Option<(u32, Option<Topic>, Urgency)>
         ensures value { Takes (λ x. (x.0, (x.1, x.2))) result (both (decimal_at 0 2592000) (both topic_at urgency_at) self.old) self.new }
         ensures kept { IfSome result (λ x. x.0 ≤ 2592000) }
     {
@@ -196,39 +211,5 @@ impl<'a> Words<'a> {
         let topic = self.topic()?;
         let urgency = self.urgency()?;
         Some((ttl, topic, urgency))
-    }
-
-    /// The ttl, the topic, the urgency and the payload of an ask. Only the payload takes memory.
-    #[tactic(auto, unfolding(crate::specs::Reading::ask_at))]
-    pub fn ask(&mut self, alloc: Global) -> Result<Ask, LineFault>
-        ensures { TakesUnless (λ a. a) result (ask_at self.old) self.new }
-    {
-        let (ttl, topic, urgency) = self.terms().ok_or(LineFault::Outside)?;
-        let payload = self.payload(alloc)?;
-        Ok(ask_of(alloc, ttl, topic, urgency, payload))
-    }
-}
-
-/// The ask of these, whose coding is known from its payload and which has no headers.
-fn ask_of(alloc: Global, ttl: u32, topic: Option<Topic>, urgency: Urgency, payload: Blob) -> Ask
-    requires kept { ttl ≤ 2592000 }
-    requires short { length payload ≤ 4096 }
-    ensures { result ≡ ask_of (ttl, (topic, (urgency, payload))) }
-{
-    let coding = if payload.bytes().is_empty() {
-        Coding::Bare
-    } else {
-        Coding::Aes128gcm
-    };
-    Ask {
-        terms: Terms {
-            ttl,
-            topic,
-            urgency,
-            coding,
-        },
-        encryption: Blob::from_vec(Vec::new(alloc)),
-        crypto_key: Blob::from_vec(Vec::new(alloc)),
-        payload,
     }
 }

@@ -1,27 +1,21 @@
-use Rattle.std.proofs.Common.{◌+◌, sym, ◌∙◌, arith, rules}
-use Rattle.std.proofs.lemmas.Slice.Eq.{bytes_eq-Decides}
-use Rattle.schedule_text.proofs.Numerals.{base10, none_not_utf8, none_not_parsed, none_other, value_some}
+use Rattle.std.proofs.Common.{arith, sym, ◌∙◌, ap, Some, ◌+◌}
+use Rattle.schedule_text.proofs.Decimals.{decimal_read, decimal_great, decimal_other}
 use Rattle.schedule_text.proofs.values.numeral_value.Goals as goal
-use Rattle.schedule_text.proofs.values.numeral_value.Goals.{else-number-high-via-then-number-high+else-eq, else-number-high-via-else-number-high}
+use Rattle.schedule_text.proofs.values.numeral_value.Goals.{then-word-gt20-via-then-word-gt20, then-word-gt20-via-else-word-gt20+then-not-are_decimal}
 
-pub returns-in_default-clause-value : goal.returns-in_default-clause-value
-returns-in_default-clause-value c = sym (none_not_utf8 10 (c.args.high + 1) c.args.word.now (base10 (c.args.high + 1) (omega arith)) c.in_default.ensures.cases.0)
-
-pub returns-in_default-parse-clause-value : goal.returns-in_default-parse-clause-value
-returns-in_default-parse-clause-value c =
-    let p = rw c.in-Ok.ensures.cases.0 at c.parse.ensures.value.0 in
-    sym (none_not_parsed 10 (c.args.high + 1) 64 c.args.word.now c.parse.result (base10 (c.args.high + 1) (omega arith)) (omega arith) p (search (rules, c.in_default-parse.is)))
-
-pub returns-then-eq-clause-value : goal.returns-then-eq-clause-value
-returns-then-eq-clause-value c =
-    let same = (bytes_eq-Decides c.as_bytes.result.now c.args.word.now).0 (sym c.eq.ensures ∙ c.if-eq.true) in
-    sym (value_some 10 (c.args.high + 1) c.in-Ok-parse.number c.args.word.now (base10 (c.args.high + 1) (omega arith)) (omega arith) (sym c.format.ensures.text ∙ sym c.as_bytes.ensures.value ∙ same))
-
-pub returns-else-number-high-clause-value : goal.returns-else-number-high-clause-value
-returns-else-number-high-clause-value c =
-    let p = rw c.in-Ok.ensures.cases.0 at c.parse.ensures.value.0 in
-    sym (none_other 10 (c.args.high + 1) 64 c.in-Ok-parse.number c.args.word.now c.parse.result (base10 (c.args.high + 1) (omega arith)) (omega arith) p c.in-Ok-parse.is
-    (elim c.else-number-high.branch [
-      | else-number-high-via-then-number-high+else-eq w ↦ λ lt e. let yes = (bytes_eq-Decides w.as_bytes.result.now c.args.word.now).1 (w.as_bytes.ensures.value ∙ w.format.ensures.text ∙ e) in cc (yes, w.eq.ensures, w.if-eq.false)
-      | else-number-high-via-else-number-high w ↦ λ lt e. omega arith
+pub returns-then-word-gt20-clause-value : goal.returns-then-word-gt20-clause-value
+returns-then-word-gt20-clause-value c =
+    sym (decimal_other (c.args.high + 1) c.args.word.now (omega arith) (λ short numeral.
+    elim c.then-word-gt20.branch [
+      | then-word-gt20-via-then-word-gt20 w ↦ absurd (omega arith)
+      | then-word-gt20-via-else-word-gt20+then-not-are_decimal w ↦ absurd (cc (w.are_decimal.ensures.1 numeral, w.if-not-are_decimal.true))
     ]))
+
+pub returns-then-number-from-clause-value : goal.returns-then-number-from-clause-value
+returns-then-number-from-clause-value c =
+    let numeral = c.are_decimal.ensures.0 c.if-not-are_decimal.false in
+    ap Some c.decimal_of-number.ensures ∙ sym (decimal_read (c.args.high + 1) c.args.word.now (omega arith) numeral (omega (arith, c.decimal_of-number.ensures, c.from.ensures, c.if-number-from.true)))
+
+pub returns-else-number-from-clause-value : goal.returns-else-number-from-clause-value
+returns-else-number-from-clause-value c =
+    sym (decimal_great (c.args.high + 1) c.args.word.now (omega arith) (omega (arith, c.decimal_of-number.ensures, c.from.ensures, c.if-number-from.false)))

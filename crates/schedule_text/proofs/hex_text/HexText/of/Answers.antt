@@ -16,10 +16,10 @@ loop-rest-preserved c =
       low = omega arith;
       high = omega arith;
       fits = one_place_less c.loop-rest.start c.loop-rest.rest i.low i.fits;
-      written = writes_more c.loop-rest.start c.loop-rest.rest c.glyph.result c.loop-rest.digits _ i.low (omega arith) c.loop-rest-test.true c.glyph.ensures i.written;
+      written = writes_more c.loop-rest.start c.loop-rest.rest c.glyph.result c.loop-rest.digits _ i.low (omega arith) c.loop-rest-test.true c.glyph.ensures.value i.written;
     }
 
 pub returns : goal.returns
 returns c =
     let i = c.loop-rest.invariant in
-    writes_all c.loop-rest.start c.loop-rest.rest c.glyph-2.result c.loop-rest.digits _ i.low (omega arith) c.loop-rest-test.false c.glyph-2.ensures i.written
+    writes_all c.loop-rest.start c.loop-rest.rest c.glyph-2.result c.loop-rest.digits _ i.low (omega arith) c.loop-rest-test.false c.glyph-2.ensures.value i.written
