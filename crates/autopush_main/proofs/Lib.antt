@@ -1,8 +1,6 @@
 mod Flow
+mod Causes
 mod LfLaws
 mod LineLaws
 mod TurnLaws
 mod Progress
-mod Values
-mod Counts
-mod Making

@@ -1,28 +1,28 @@
 -- Where a replay stands between two turns.
-use Rattle.std.proofs.Common.{◌≡◌, ℕ, ◌+◌, ◌≤◌, List, [], ◌∷◌, ◌++◌, length, Option, Some, None, refl, sym, ap, subst, ◌∙◌, append_assoc, arith, inl, inr, ◌⊎◌}
-use Rattle.std.specs.Prelude.{IfSome}
+use Rattle.std.proofs.Common.{◌≡◌, ℕ, ◌+◌, ◌≤◌, true, List, [], ◌∷◌, ◌++◌, length, map, Option, Some, None, refl, sym, ap, subst, ◌∙◌, append_assoc, arith, inl, inr, ◌⊎◌}
+use Rattle.std.specs.Prelude.{Bool, false, ◌&&◌, IfSome}
 use Rattle.std.specs.List.{AllByRecursion}
 use Rattle.std.specs.Io.KnownBytes.{Consumes, Appends, Keeps}
 use Rattle.std.proofs.lemmas.List.{append-nil, length-append}
-use Rattle.push_model.specs.Worlds.{World, start, step}
-use Rattle.push_model.specs.Histories.{history, IsLegal}
+use Rattle.push_model.specs.Worlds.{World, start}
+use Rattle.push_model.specs.Steps.{step}
+use Rattle.push_model.specs.Histories.{history, IsLegal, world_after}
 use Rattle.push_model.specs.Accounting.{IsAccounted}
+use Rattle.push_model.specs.Caring.{is_cared, none_waits, none_waited, counts_none}
 use Rattle.push_model.specs.declared.entry.Entry.{Entry}
 use Rattle.push_model.specs.declared.reply.Reply.{Reply}
 use Rattle.push_model.specs.declared.step.Step.{Step}
-use Rattle.schedule_text.specs.Spelling.{spell, InRange}
-use Rattle.schedule_text.specs.Replies.{reply_line}
+use Rattle.push_model.specs.declared.step.Step.TheVariants.{Report}
+use Rattle.schedule_text.specs.Spelling.{spell}
+use Rattle.schedule_text.specs.Replies.{reply_line, SaysNoneWaits}
 use Rattle.autopush_main.specs.Lines.{NoLf, Moves}
-use Rattle.autopush_main.specs.Replay.{beginning, AreLines, IsRefused, lines_of, text, world_of, AreAccounted, refusal, ended, IsDone, IsRefusal, IsBroken}
-use Rattle.autopush_main.specs.Turns.{Kept, NotTaken, Advances, Finishes, Refuses, Turns, Replays, PieceOfFirst, Cuts, IsCut}
+use Rattle.autopush_main.specs.Known.{AppendsFront}
+use Rattle.autopush_main.specs.Replay.{beginning, AreLines, IsRefused, IsTaken, lines_of, text, world_of, SaysForReport, ReportsSay, Headline, refusal, ended, IsRefusedBehind, IsWholeLine, IsLastLine, IsDone, IsRefusal, IsBroken, IsCut}
+use Rattle.autopush_main.specs.Turns.{NotTaken, RefusesFirst, Advances, Finishes, Refuses, CutsStep, CutsFirst, Turns, Replays}
 use Rattle.autopush_main.specs.declared.turn.End.{End}
 use Rattle.autopush_main.specs.declared.turn.End.TheVariants as ends
-use Rattle.autopush_main.proofs.Flow.{Consumes-then, Appends-then, Appends-kept, then_front}
+use Rattle.autopush_main.proofs.Flow.{Consumes-then, Appends-then, Appends-kept, Appends-none}
 use Rattle.autopush_main.proofs.LineLaws.{lines_of-line}
-
-abbrev pub AllKept : List Step → Type 0
-AllKept [] = Unit {0}
-AllKept (s ∷ steps) = Kept s × AllKept steps
 
 nothing_read : (before : Option (List ℕ)) → Consumes before before []
 nothing_read None = tt
@@ -36,20 +36,17 @@ limit_of : (line : List ℕ) (count n : ℕ) → n ≡ count → NotTaken line c
 limit_of line count n e (inl refused) = inl refused
 limit_of line count n e (inr full) = inr (e ∙ full)
 
-at_step : (piece : List ℕ) (lines : List (List ℕ)) (count n : ℕ) (w v : World) → n ≡ count → w ≡ v → PieceOfFirst piece lines count w → PieceOfFirst piece lines n v
-at_step piece lines count n w v e r h = subst (λ (k : ℕ). PieceOfFirst piece lines k v) (sym e) (subst (λ (u : World). PieceOfFirst piece lines count u) r h)
-
 -- these steps' lines were read and answered, and the pending bytes stand behind them
 pub record Progress (before now : Option (List ℕ)) (pending : List ℕ) (count : ℕ) (world : World) (held written : Option (List ℕ)) : Type 0 where
   pub steps : List Step
-  pub kept : AllKept steps
+  pub taken : AllByRecursion IsTaken steps
   pub input : Consumes before now (ended steps ++ pending)
   pub counted : length steps ≡ count
   pub reached : world ≡ world_of beginning steps
   pub output : Appends held written (text beginning steps)
 
 pub begins : (before held : Option (List ℕ)) → Progress before before [] 0 beginning held held
-begins before held = record { steps = []; kept = tt; input = nothing_read before; counted = refl; reached = refl; output = nothing_written held }
+begins before held = record { steps = []; taken = tt; input = nothing_read before; counted = refl; reached = refl; output = nothing_written held }
 
 -- ---- one step more
 
@@ -70,9 +67,9 @@ text-append w (t ∷ steps) more =
     ap (λ (b : List ℕ). reply_line (step w t).1 ++ b) (text-append (step w t).0 steps more)
     ∙ sym (append_assoc (reply_line (step w t).1) (text (step w t).0 steps) (text (world_of (step w t).0 steps) more))
 
-kept-push : (steps : List Step) (s : Step) → AllKept steps → Kept s → AllKept (steps ++ s ∷ [])
-kept-push [] s h k = (k, tt)
-kept-push (t ∷ steps) s h k = (h.0, kept-push steps s h.1 k)
+taken-push : (steps : List Step) (s : Step) → AllByRecursion IsTaken steps → IsTaken s → AllByRecursion IsTaken (steps ++ s ∷ [])
+taken-push [] s h k = (k, tt)
+taken-push (t ∷ steps) s h k = (h.0, taken-push steps s h.1 k)
 
 pub goes_on : (before now after : Option (List ℕ)) (pending rest : List ℕ) (count : ℕ) (old new : World) (held written more : Option (List ℕ))
     → Progress before now pending count old held written → Advances now after pending rest old new written more → Progress before after rest (count + 1) new held more
@@ -86,7 +83,7 @@ goes_on before now after pending rest count old new held written more p a =
     ∙ sym (text-append beginning p.steps (a.made ∷ [])) in
     record {
       steps = steps;
-      kept = kept-push p.steps a.made p.kept a.kept;
+      taken = taken-push p.steps a.made p.taken a.taken;
       input = subst (Consumes before after) bytes (Consumes-then before now after (ended p.steps ++ pending) a.read p.input a.input);
       counted = omega (arith, p.counted, length-append p.steps (a.made ∷ []));
       reached = a.moved ∙ ap (λ (w : World). (step w a.made).0) p.reached ∙ sym (world_of-push beginning p.steps a.made);
@@ -95,31 +92,16 @@ goes_on before now after pending rest count old new held written more p a =
 
 -- ---- how it ends
 
-spells : List Step → List (List ℕ)
-spells [] = []
-spells (s ∷ steps) = spell s ∷ spells steps
-
-lines_of-ended : (steps : List Step) (rest : List ℕ) → AllKept steps → lines_of (ended steps ++ rest) ≡ spells steps ++ lines_of rest
-unfolding spells
+lines_of-ended : (steps : List Step) (rest : List ℕ) → AllByRecursion IsTaken steps → lines_of (ended steps ++ rest) ≡ map spell steps ++ lines_of rest
 lines_of-ended [] rest h = refl
 lines_of-ended (s ∷ steps) rest h =
     ap lines_of (append_assoc (spell s) (10 ∷ ended steps) rest)
     ∙ lines_of-line (spell s) (ended steps ++ rest) h.0.no_lf
     ∙ ap (λ (ls : List (List ℕ)). spell s ∷ ls) (lines_of-ended steps rest h.1)
 
-are_lines : (steps : List Step) → AllKept steps → AreLines (spells steps) steps
-unfolding spells
-are_lines [] h = tt
-are_lines (s ∷ steps) h = (record { spelled = refl; range = h.0.range; short = h.0.short }, are_lines steps h.1)
-
-are_lines-append : (steps more : List Step) (ls : List (List ℕ)) → AllKept steps → AreLines ls more → AreLines (spells steps ++ ls) (steps ++ more)
-unfolding spells
+are_lines-append : (steps more : List Step) (ls : List (List ℕ)) → AllByRecursion IsTaken steps → AreLines ls more → AreLines (map spell steps ++ ls) (steps ++ more)
 are_lines-append [] more ls h k = k
 are_lines-append (s ∷ steps) more ls h k = (record { spelled = refl; range = h.0.range; short = h.0.short }, are_lines-append steps more ls h.1 k)
-
-in_range : (steps : List Step) → AllKept steps → AllByRecursion InRange steps
-in_range [] h = tt
-in_range (s ∷ steps) h = (h.0.range, in_range steps h.1)
 
 -- all that there was, from what was still there
 from_now : (before now : Option (List ℕ)) (read : List ℕ) (P Q : List ℕ → Type 0) → Consumes before now read → IfSome now Q → ((left : List ℕ) → Q left → P (read ++ left)) → IfSome before P
@@ -127,16 +109,16 @@ from_now None now read P Q c q h = tt
 from_now (Some all) None read P Q c q h = absurd c
 from_now (Some all) (Some left) read P Q c q h = subst P (sym c) (h left q)
 
--- each list of steps is accounted
+-- the laws hold of each list of steps
 abbrev pub Law : Type 0
-Law = (steps : List Step) → AreAccounted steps
+Law = (steps : List Step) → Headline steps
 
 pub done_from : Law → (before now after : Option (List ℕ)) (pending : List ℕ) (count : ℕ) (world : World) (held written more : Option (List ℕ))
     → Progress before now pending count world held written → Finishes now after pending count world written more → IsDone before after held more
 done_from law before now after pending count world held written more p f =
     let read = (ended p.steps ++ pending) ++ f.read in
     let lines : AreLines (lines_of read) (p.steps ++ f.steps) =
-    subst (λ (ls : List (List ℕ)). AreLines ls (p.steps ++ f.steps)) (sym (ap lines_of (append_assoc (ended p.steps) pending f.read) ∙ lines_of-ended p.steps (pending ++ f.read) p.kept)) (are_lines-append p.steps f.steps (lines_of (pending ++ f.read)) p.kept f.lines) in
+    subst (λ (ls : List (List ℕ)). AreLines ls (p.steps ++ f.steps)) (sym (ap lines_of (append_assoc (ended p.steps) pending f.read) ∙ lines_of-ended p.steps (pending ++ f.read) p.taken)) (are_lines-append p.steps f.steps (lines_of (pending ++ f.read)) p.taken f.lines) in
     let replied : text beginning p.steps ++ text world f.steps ≡ text beginning (p.steps ++ f.steps) =
     ap (λ (w : World). text beginning p.steps ++ text w f.steps) p.reached ∙ sym (text-append beginning p.steps f.steps) in
     record {
@@ -147,63 +129,164 @@ done_from law before now after pending count world held written more p f =
       lines = lines;
       count = omega (arith, p.counted, f.room, length-append p.steps f.steps);
       output = subst (Appends held more) replied (Appends-then held written more (text beginning p.steps) (text world f.steps) p.output f.output);
-      accounted = law (p.steps ++ f.steps);
+      headline = law (p.steps ++ f.steps);
     }
 
+-- the lines behind those of the steps
+behind_steps : (before now : Option (List ℕ)) (pending : List ℕ) (count : ℕ) (world : World) (held written : Option (List ℕ))
+    → (p : Progress before now pending count world held written) → RefusesFirst now pending count → IsRefusedBehind before p.steps
+behind_steps before now pending count world held written p r =
+    from_now before now (ended p.steps ++ pending) _ _ p.input r (λ left q.
+    (q.0, q.1, ap lines_of (append_assoc (ended p.steps) pending left) ∙ lines_of-ended p.steps (pending ++ left) p.taken ∙ ap (λ (ls : List (List ℕ)). map spell p.steps ++ ls) q.2, limit_of q.0 count (length p.steps) p.counted q.3))
+
+-- what was read, by the lines that were answered and what stands behind them
+reads_on : (before now after : Option (List ℕ)) (front pending read : List ℕ) → Consumes before now (front ++ pending) → Consumes now after read → Consumes before after (front ++ (pending ++ read))
+reads_on before now after front pending read c d = subst (Consumes before after) (append_assoc front pending read) (Consumes-then before now after (front ++ pending) read c d)
+
 pub refused_from : Law → (before now after : Option (List ℕ)) (pending : List ℕ) (count : ℕ) (world : World) (held written more : Option (List ℕ))
-    → count ≤ 1000000 → Progress before now pending count world held written → Refuses now pending count written more → IsRefusal before after held more
+    → count ≤ 1000000 → Progress before now pending count world held written → Refuses now after pending count written more → IsRefusal before after held more
 refused_from law before now after pending count world held written more le p r =
     record {
-      front = spells p.steps;
       steps = p.steps;
-      lines = are_lines p.steps p.kept;
+      taken = p.taken;
       count = omega (arith, p.counted);
-      input = from_now before now (ended p.steps ++ pending) _ _ p.input r.input (λ left q.
-          (q.0, q.1, ap lines_of (append_assoc (ended p.steps) pending left) ∙ lines_of-ended p.steps (pending ++ left) p.kept ∙ ap (λ (ls : List (List ℕ)). spells p.steps ++ ls) q.2, limit_of q.0 count (length p.steps) p.counted q.3));
+      behind = pending ++ r.read;
+      input = reads_on before now after (ended p.steps) pending r.read p.input r.input;
+      refused = behind_steps before now pending count world held written p r.refused;
       output = Appends-then held written more (text beginning p.steps) (refusal (length p.steps + 1)) p.output (subst (λ (n : ℕ). Appends written more (refusal (n + 1))) (sym p.counted) r.output);
-      accounted = law p.steps;
+      headline = law p.steps;
     }
 
 pub broken_from : Law → (before now after : Option (List ℕ)) (pending rest : List ℕ) (count : ℕ) (world : World) (held written more : Option (List ℕ))
-    → Progress before now pending count world held written → Moves now after pending rest → NoLf rest → Keeps written more → IsBroken before after held more
-broken_from law before now after pending rest count world held written more p m no_lf k =
+    → count ≤ 1000000 → Progress before now pending count world held written → Moves now after pending rest → NoLf rest → Keeps written more → IsBroken before after held more
+broken_from law before now after pending rest count world held written more le p m no_lf k =
     record {
       steps = p.steps;
-      ranges = in_range p.steps p.kept;
+      taken = p.taken;
+      count = omega (arith, p.counted);
       partial = rest;
-      input = subst (Consumes before after) (append_assoc (ended p.steps) pending m.read ∙ ap (λ (b : List ℕ). ended p.steps ++ b) (sym m.joined)) (Consumes-then before now after (ended p.steps ++ pending) m.read p.input m.input);
+      input = subst (λ (b : List ℕ). Consumes before after (ended p.steps ++ b)) (sym m.joined) (reads_on before now after (ended p.steps) pending m.read p.input m.input);
       no_lf = no_lf;
       output = Appends-kept held written more (text beginning p.steps) p.output k;
-      accounted = law p.steps;
+      headline = law p.steps;
     }
 
-pub cut_from : Law → (before now : Option (List ℕ)) (pending : List ℕ) (count : ℕ) (world : World) (held written more : Option (List ℕ))
-    → Progress before now pending count world held written → Cuts now pending count world written more → IsCut before held more
-cut_from law before now pending count world held written more p t =
+-- ---- cut
+
+-- the last line of what was still there is the last of all
+last_of : (before now : Option (List ℕ)) (front pending read : List ℕ) → Consumes before now (front ++ pending) → IfSome now (λ all. all ≡ read) → IfSome before (λ all. all ≡ front ++ (pending ++ read))
+last_of before now front pending read c h =
+    from_now before now (front ++ pending) (λ all. all ≡ front ++ (pending ++ read)) (λ left. left ≡ read) c h (λ left e. ap (λ (b : List ℕ). (front ++ pending) ++ b) e ∙ append_assoc front pending read)
+
+line_of : (before now : Option (List ℕ)) (steps : List Step) (s : Step) (pending read : List ℕ) → Consumes before now (ended steps ++ pending)
+    → IsWholeLine (pending ++ read) s ⊎ ((pending ++ read ≡ spell s) × IfSome now (λ all. all ≡ read)) → IsWholeLine (pending ++ read) s ⊎ IsLastLine (pending ++ read) s steps before
+line_of before now steps s pending read c (inl whole) = inl whole
+line_of before now steps s pending read c (inr last) = inr (last.0, last_of before now (ended steps) pending read c last.1)
+
+cut_by : Law → (status : ℕ) (before now after : Option (List ℕ)) (pending read : List ℕ) (count : ℕ) (old new : World) (held written more : Option (List ℕ))
+    → count ≤ 1000000 → Progress before now pending count old held written → Consumes now after read
+    → ((status ≡ 7) × Keeps written more) ⊎ CutsStep (pending ++ read) now read count old new written more ⊎ CutsFirst now pending count written more → IsCut status before after held more
+cut_by law status before now after pending read count old new held written more le p input (inl kept) =
     record {
-      front = spells p.steps;
+      earlier = p.steps;
       steps = p.steps;
-      lines = are_lines p.steps p.kept;
-      piece = t.piece;
-      whose = from_now before now (ended p.steps ++ pending) _ _ p.input t.whose (λ left q.
-          (lines_of (pending ++ left), ap lines_of (append_assoc (ended p.steps) pending left) ∙ lines_of-ended p.steps (pending ++ left) p.kept, at_step t.piece (lines_of (pending ++ left)) count (length p.steps) world (world_of beginning p.steps) p.counted p.reached q));
-      output = then_front held written more (text beginning p.steps) t.piece p.output t.output;
-      accounted = law p.steps;
+      taken = p.taken;
+      count = omega (arith, p.counted);
+      behind = pending ++ read;
+      input = reads_on before now after (ended p.steps) pending read p.input input;
+      piece = [];
+      whose = inl (kept.0, refl, refl);
+      mid = written;
+      whole = p.output;
+      cut = record { front = []; rest = []; parts = refl; appended = Appends-none written more kept.1 };
+      headline = law p.steps;
+    }
+cut_by law status before now after pending read count old new held written more le p input (inr (inl d)) =
+    record {
+      earlier = p.steps;
+      steps = p.steps ++ d.made ∷ [];
+      taken = taken-push p.steps d.made p.taken d.taken;
+      count = omega (arith, p.counted, d.room, length-append p.steps (d.made ∷ []));
+      behind = pending ++ read;
+      input = reads_on before now after (ended p.steps) pending read p.input input;
+      piece = reply_line (step old d.made).1;
+      whose = inr (inl (record {
+        last = d.made;
+        is_last = refl;
+        line = line_of before now p.steps d.made pending read p.input d.line;
+        reply = ap (λ (w : World). reply_line (step w d.made).1) p.reached;
+      }));
+      mid = written;
+      whole = p.output;
+      cut = d.output;
+      headline = law (p.steps ++ d.made ∷ []);
+    }
+cut_by law status before now after pending read count old new held written more le p input (inr (inr d)) =
+    record {
+      earlier = p.steps;
+      steps = p.steps;
+      taken = p.taken;
+      count = omega (arith, p.counted);
+      behind = pending ++ read;
+      input = reads_on before now after (ended p.steps) pending read p.input input;
+      piece = refusal (length p.steps + 1);
+      whose = inr (inr (refl, refl, behind_steps before now pending count old held written p d.refused));
+      mid = written;
+      whole = p.output;
+      cut = subst (λ (n : ℕ). AppendsFront written more (refusal (n + 1))) (sym p.counted) d.output;
+      headline = law p.steps;
     }
 
 pub ends_so : Law → (end : End) (before now after : Option (List ℕ)) (pending rest : List ℕ) (count : ℕ) (old new : World) (held written more : Option (List ℕ))
     → count ≤ 1000000 → Progress before now pending count old held written → Turns (Some end) now after pending rest count old new written more → Replays end before after held more
 ends_so law ends.Done before now after pending rest count old new held written more le p t = done_from law before now after pending count old held written more p t
 ends_so law ends.Refused before now after pending rest count old new held written more le p t = refused_from law before now after pending count old held written more le p t
-ends_so law ends.ReadFault before now after pending rest count old new held written more le p t = broken_from law before now after pending rest count old held written more p t.0 t.1 t.2
-ends_so law ends.WriteFault before now after pending rest count old new held written more le p t = cut_from law before now pending count old held written more p t
-ends_so law ends.NoMemory before now after pending rest count old new held written more le p t = cut_from law before now pending count old held written more p t
+ends_so law ends.ReadFault before now after pending rest count old new held written more le p t = broken_from law before now after pending rest count old held written more le p t.0 t.1 t.2
+ends_so law ends.WriteFault before now after pending rest count old new held written more le p t = cut_by law 6 before now after pending t.read count old new held written more le p t.input t.how
+ends_so law ends.NoMemory before now after pending rest count old new held written more le p t = cut_by law 7 before now after pending t.read count old new held written more le p t.input t.how
 
--- ---- the law, from that of legal histories
+-- ---- the laws, from those of legal histories
 
 history-legal : (w : World) (steps : List Step) → IsLegal step w (history step 0 w steps)
 history-legal w [] = tt
 history-legal w (s ∷ steps) = (refl, history-legal (step w s).0 steps)
 
-pub accounts : ((shard next : ℕ) (entries : List (Entry Step Reply)) → IsLegal step (start shard next) entries → IsAccounted (start shard next) entries) → Law
-accounts law steps = law 0 1 (history step 0 beginning steps) (history-legal beginning steps)
+world_of-history : (w : World) (steps : List Step) → world_after step w (history step 0 w steps) ≡ world_of w steps
+world_of-history w [] = refl
+world_of-history w (s ∷ steps) = world_of-history (step w s).0 steps
+
+both_true : (a b : Bool) → (a && b) ≡ true → (a ≡ true) × (b ≡ true)
+both_true true b h = (refl, h)
+both_true false b h = absurd (cc h)
+
+-- what the laws of the definitions say
+abbrev pub Accounted : Type 0
+Accounted = (shard next : ℕ) (entries : List (Entry Step Reply)) → IsLegal step (start shard next) entries → IsAccounted (start shard next) entries
+
+abbrev pub Cared : Type 0
+Cared = (shard next : ℕ) (entries : List (Entry Step Reply)) → IsLegal step (start shard next) entries → is_cared (world_after step (start shard next) entries) ≡ true
+
+abbrev pub Reported : Type 0
+Reported = (shard next : ℕ) (entries : List (Entry Step Reply)) → IsLegal step (start shard next) entries → none_waited entries ≡ true
+
+abbrev pub Said : Type 0
+Said = (r : Reply) → counts_none r ≡ true → SaysNoneWaits (reply_line r)
+
+says_for : Said → (s : Step) (r : Reply) → none_waits s r ≡ true → SaysForReport s (reply_line r)
+says_for said Report r h = said r h
+says_for said _ r h = tt
+
+reports_say : Said → (w : World) (steps : List Step) → none_waited (history step 0 w steps) ≡ true → ReportsSay w steps
+reports_say said w [] h = tt
+reports_say said w (s ∷ steps) h =
+    let both = both_true (none_waits s (step w s).1) (none_waited (history step 0 (step w s).0 steps)) h in
+    (says_for said s (step w s).1 both.0, reports_say said (step w s).0 steps both.1)
+
+pub headlines : Accounted → Cared → Reported → Said → Law
+headlines accounted cared reported said steps =
+    let legal = history-legal beginning steps in
+    record {
+      accounted = accounted 0 1 (history step 0 beginning steps) legal;
+      cared = ap is_cared (sym (world_of-history beginning steps)) ∙ cared 0 1 (history step 0 beginning steps) legal;
+      reports = reports_say said beginning steps (reported 0 1 (history step 0 beginning steps) legal);
+    }

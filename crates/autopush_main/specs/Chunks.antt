@@ -1,7 +1,7 @@
 -- What a read gives where lulls are waited out, and by which cause it breaks off.
 use Rattle.std.specs.Prelude.{ℕ, ◌≤◌, List, length, take, Option}
 use Rattle.std.specs.Io.KnownBytes.{Consumes, Keeps, IsAtEnd}
-use Rattle.autopush_main.specs.Known.{HasCause}
+use Rattle.autopush_main.specs.Known.{NoFault, HasCause}
 use Rattle.autopush_main.specs.declared.chunk.Chunk.{Chunk}
 use Rattle.autopush_main.specs.declared.chunk.Chunk.TheVariants.{Bytes, End, Lost}
 
@@ -10,8 +10,8 @@ ReadsChunk (Bytes n) room old new = (1 ≤ n) × (n ≤ length room) × Consumes
 ReadsChunk End room old new = Keeps old new × IsAtEnd old
 ReadsChunk Lost room old new = Keeps old new
 
--- the count of faults doesn't fall, and `Lost` has its cause
-abbrev pub ReadsBy : Chunk → ℕ → ℕ → ℕ → Type 0
-ReadsBy (Bytes n) before now lulls = before ≤ now
-ReadsBy End before now lulls = before ≤ now
-ReadsBy Lost before now lulls = (before ≤ now) × HasCause before now lulls
+-- only `Lost` is a fault
+abbrev pub ReadsBy : Chunk → ℕ → ℕ → ℕ → ℕ → Type 0
+ReadsBy (Bytes n) faults faults_now lulls lulls_now = NoFault faults faults_now lulls lulls_now
+ReadsBy End faults faults_now lulls lulls_now = NoFault faults faults_now lulls lulls_now
+ReadsBy Lost faults faults_now lulls lulls_now = HasCause faults faults_now lulls lulls_now

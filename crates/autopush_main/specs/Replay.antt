@@ -1,13 +1,17 @@
 -- What a replay reads and writes.
-use Rattle.std.specs.Prelude.{◌≡◌, ℕ, ◌+◌, ◌≤◌, ◌⊎◌, ◌==◌, List, [], ◌∷◌, ◌++◌, length, codes, decimal, Option, IfSome, if◌then◌else◌}
+use Rattle.std.specs.Prelude.{◌≡◌, ℕ, ◌+◌, ◌≤◌, ◌⊎◌, ◌==◌, List, [], ◌∷◌, ◌++◌, length, map, codes, decimal, true, Option, IfSome, if◌then◌else◌}
 use Rattle.std.specs.List.{AllByRecursion}
 use Rattle.std.specs.Io.KnownBytes.{Consumes, Appends}
-use Rattle.push_model.specs.Worlds.{World, start, step}
+use Rattle.push_model.specs.Worlds.{World, start}
+use Rattle.push_model.specs.Steps.{step}
 use Rattle.push_model.specs.Histories.{history}
 use Rattle.push_model.specs.Accounting.{IsAccounted}
+use Rattle.push_model.specs.Caring.{is_cared}
 use Rattle.push_model.specs.declared.step.Step.{Step}
+use Rattle.push_model.specs.declared.step.Step.TheVariants.{Report}
 use Rattle.schedule_text.specs.Spelling.{spell, InRange}
-use Rattle.schedule_text.specs.Replies.{reply_line}
+use Rattle.schedule_text.specs.Replies.{reply_line, SaysNoneWaits}
+use Rattle.autopush_main.specs.Known.{AppendsFront}
 use Rattle.autopush_main.specs.Lines.{NoLf}
 
 -- ---- lines
@@ -36,6 +40,17 @@ AreLines (line ∷ lines) (s ∷ steps) = IsLine line s × AreLines lines steps
 abbrev pub IsRefused : List ℕ → Type 0
 IsRefused line = (s : Step) → IsLine line s → ⊥
 
+-- a step whose spelling is a line
+pub record IsTaken (s : Step) : Type 0 where
+  pub range : InRange s
+  pub short : length (spell s) ≤ 16384
+  pub no_lf : NoLf (spell s)
+
+-- the lines of the steps, each with its LF
+abbrev pub ended : List Step → List ℕ
+ended [] = []
+ended (s ∷ steps) = spell s ++ 10 ∷ ended steps
+
 -- ---- replies
 
 -- the world in which a replay begins: shard 0, and 1 as the first message number
@@ -51,9 +66,21 @@ abbrev pub world_of : World → List Step → World
 world_of w [] = w
 world_of w (s ∷ steps) = world_of (step w s).0 steps
 
--- in the history of these steps each message is accounted for
-abbrev pub AreAccounted : List Step → Type 0
-AreAccounted steps = IsAccounted beginning (history step 0 beginning steps)
+-- the line of a report ends with ` waiting 0`
+abbrev pub SaysForReport : Step → List ℕ → Type 0
+SaysForReport Report line = SaysNoneWaits line
+SaysForReport _ line = Unit {0}
+
+abbrev pub ReportsSay : World → List Step → Type 0
+ReportsSay w [] = Unit {0}
+ReportsSay w (s ∷ steps) = SaysForReport s (reply_line (step w s).1) × ReportsSay (step w s).0 steps
+
+-- The laws that the history of these steps keeps: each message is accounted for; each row that a routed session wasn't
+-- sent is covered; and each report says that none waits.
+pub record Headline (steps : List Step) : Type 0 where
+  pub accounted : IsAccounted beginning (history step 0 beginning steps)
+  pub cared : is_cared (world_of beginning steps) ≡ true
+  pub reports : ReportsSay beginning steps
 
 abbrev pub refusal : ℕ → List ℕ
 refusal n = codes "refused line " ++ (decimal n ++ 10 ∷ [])
@@ -72,29 +99,70 @@ pub record IsDone (before after held now : Option (List ℕ)) : Type 0 where
   pub lines : AreLines (lines_of read) steps
   pub count : length steps ≤ limit
   pub output : Appends held now (text beginning steps)
-  pub accounted : AreAccounted steps
+  pub headline : Headline steps
+
+-- the line behind those of the steps is refused, or is one too many
+abbrev pub IsRefusedBehind : Option (List ℕ) → List Step → Type 0
+IsRefusedBehind before steps = IfSome before (λ all. (line : List ℕ) × (more : List (List ℕ)) × (lines_of all ≡ map spell steps ++ line ∷ more) × (IsRefused line ⊎ (length steps ≡ limit)))
 
 -- the lines before the first refused one were answered, and it was named
 pub record IsRefusal (before after held now : Option (List ℕ)) : Type 0 where
-  pub front : List (List ℕ)
   pub steps : List Step
-  pub lines : AreLines front steps
+  pub taken : AllByRecursion IsTaken steps
   pub count : length steps ≤ limit
-  pub input : IfSome before (λ all. (line : List ℕ) × (more : List (List ℕ)) × (lines_of all ≡ front ++ line ∷ more) × (IsRefused line ⊎ (length steps ≡ limit)))
+  pub behind : List ℕ
+  pub input : Consumes before after (ended steps ++ behind)
+  pub refused : IsRefusedBehind before steps
   pub output : Appends held now (text beginning steps ++ refusal (length steps + 1))
-  pub accounted : AreAccounted steps
-
--- the lines of the steps, each with its LF
-abbrev pub ended : List Step → List ℕ
-ended [] = []
-ended (s ∷ steps) = spell s ++ 10 ∷ ended steps
+  pub headline : Headline steps
 
 -- reading broke off, and each line that was whole before was answered
 pub record IsBroken (before after held now : Option (List ℕ)) : Type 0 where
   pub steps : List Step
-  pub ranges : AllByRecursion InRange steps
+  pub taken : AllByRecursion IsTaken steps
+  pub count : length steps ≤ limit
   pub partial : List ℕ
   pub input : Consumes before after (ended steps ++ partial)
   pub no_lf : NoLf partial
   pub output : Appends held now (text beginning steps)
-  pub accounted : AreAccounted steps
+  pub headline : Headline steps
+
+-- ---- where writing broke off, or memory ran out
+
+-- nothing, where memory ran out
+abbrev pub CutsNothing : ℕ → List ℕ → List Step → List Step → Type 0
+CutsNothing status piece earlier steps = (status ≡ 7) × (steps ≡ earlier) × (piece ≡ [])
+
+-- these bytes begin with the step's line and its LF
+abbrev pub IsWholeLine : List ℕ → Step → Type 0
+IsWholeLine behind s = (more : List ℕ) × (behind ≡ spell s ++ 10 ∷ more)
+
+-- these bytes, behind the earlier lines, are the step's line, which is the last of the input and has no LF
+abbrev pub IsLastLine : List ℕ → Step → List Step → Option (List ℕ) → Type 0
+IsLastLine behind s earlier before = (behind ≡ spell s) × IfSome before (λ all. all ≡ ended earlier ++ behind)
+
+-- the reply to the last step, whose line stands behind those of the earlier ones
+pub record CutsReply (piece : List ℕ) (earlier steps : List Step) (behind : List ℕ) (before : Option (List ℕ)) : Type 0 where
+  pub last : Step
+  pub is_last : steps ≡ earlier ++ last ∷ []
+  pub line : IsWholeLine behind last ⊎ IsLastLine behind last earlier before
+  pub reply : piece ≡ reply_line (step (world_of beginning earlier) last).1
+
+-- the refusal of the line behind the steps
+abbrev pub CutsRefusal : List ℕ → List Step → List Step → Option (List ℕ) → Type 0
+CutsRefusal piece earlier steps before = (steps ≡ earlier) × (piece ≡ refusal (length steps + 1)) × IsRefusedBehind before steps
+
+-- the replies to the earlier steps were written whole, and a front of one piece more: of nothing, of the reply to one step more, or of a refusal
+pub record IsCut (status : ℕ) (before after held now : Option (List ℕ)) : Type 0 where
+  pub earlier : List Step
+  pub steps : List Step
+  pub taken : AllByRecursion IsTaken steps
+  pub count : length steps ≤ limit
+  pub behind : List ℕ
+  pub input : Consumes before after (ended earlier ++ behind)
+  pub piece : List ℕ
+  pub whose : CutsNothing status piece earlier steps ⊎ CutsReply piece earlier steps behind before ⊎ CutsRefusal piece earlier steps before
+  pub mid : Option (List ℕ)
+  pub whole : Appends held mid (text beginning earlier)
+  pub cut : AppendsFront mid now piece
+  pub headline : Headline steps

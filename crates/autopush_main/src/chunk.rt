@@ -20,7 +20,7 @@ pub enum Chunk {
 pub fn read_chunk<I: Source>(source: &mut I, room: &mut [u8]) -> Chunk
     requires { 0 < length room.old }
     ensures bytes { ReadsChunk result room.new (I.left source.old) (I.left source.new) }
-    ensures cause { ReadsBy result (I.faults source.old) (I.faults source.new) (I.lulls source.new) }
+    ensures cause { ReadsBy result (I.faults source.old) (I.faults source.new) (I.lulls source.old) (I.lulls source.new) }
 {
     for _ in 0..LULLS {
         match source.read(room) {

@@ -1,13 +1,11 @@
 //! The commands of the push service as calls over any source and sink.
 #![tactic(auto)]
 
-mod cells;
 mod chunk;
 mod lulls;
 mod pending;
 mod put;
 mod run;
-mod shard;
 mod top;
 mod turn;
 

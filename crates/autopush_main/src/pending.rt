@@ -1,6 +1,6 @@
 //! The lines of a source, one after the other.
 ghost use Rattle.std.specs.Prelude.{◌≡◌, ◌≤◌, ◌<◌, ◌+◌, ◌++◌, ◌∷◌, [], length, take, drop, OnOk, OnErr, MatchOption, position};
-ghost use Rattle.autopush_main.specs.Lines.{NoLf, is_lf, Found, Fills};
+ghost use Rattle.autopush_main.specs.Lines.{NoLf, is_lf, Found, FoundBy, Fills};
 
 use crate::chunk::{Chunk, read_chunk};
 use push_model::NoMemory;
@@ -114,7 +114,8 @@ const CHUNK: usize = 16384;
 /// Reads until the front of the input is known: a line and its LF, its rest without one, or more bytes than a line has.
 pub fn next_line<I: Source>(source: &mut I, pending: &mut Pending) -> Next
     ensures input { Fills result (I.left source.old) (I.left source.new) pending.old pending.new }
-    ensures found { Found result pending.new (I.faults source.old) (I.faults source.new) (I.lulls source.new) }
+    ensures found { Found result pending.new }
+    ensures cause { FoundBy result (I.faults source.old) (I.faults source.new) (I.lulls source.old) (I.lulls source.new) }
 {
     let mut scanned = 0;
     for _ in 0..=LINE + 1 {

@@ -28,7 +28,7 @@ enum Piece {
 fn put_piece<K: Sink>(sink: &mut K, piece: &[u8]) -> Piece
     requires { 0 < length piece.now }
     ensures bytes { WritesPiece result piece.now (K.written sink.old) (K.written sink.new) }
-    ensures cause { WritesBy result (K.faults sink.old) (K.faults sink.new) (K.lulls sink.new) }
+    ensures cause { WritesBy result (K.faults sink.old) (K.faults sink.new) (K.lulls sink.old) (K.lulls sink.new) }
 {
     for _ in 0..LULLS {
         match sink.write(piece) {
@@ -44,7 +44,7 @@ fn put_piece<K: Sink>(sink: &mut K, piece: &[u8]) -> Piece
 /// Writes all of the bytes, or a front of them where it breaks off.
 pub fn put_all<K: Sink>(sink: &mut K, bytes: &[u8]) -> Written
     ensures bytes { WritesAll result bytes.now (K.written sink.old) (K.written sink.new) }
-    ensures cause { WrittenBy result (K.faults sink.old) (K.faults sink.new) (K.lulls sink.new) }
+    ensures cause { WrittenBy result (K.faults sink.old) (K.faults sink.new) (K.lulls sink.old) (K.lulls sink.new) }
 {
     let mut at = 0;
     while at < bytes.len() {

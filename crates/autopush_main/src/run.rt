@@ -2,19 +2,22 @@
 ghost use Rattle.autopush_main.specs.Turns.{Replays, BlamesSourceEnd, BlamesSink};
 
 use crate::pending::Pending;
-use crate::shard::Shard;
 use crate::turn::{End, LINES, turn};
-use push_model::laws::legal_histories_are_accounted;
+use push_model::laws::{legal_histories_are_accounted, legal_histories_are_cared};
 use push_outside::{Sink, Source};
+use schedule_text::laws::reports_say_that_none_waits;
+use shard_core::Shard;
 use std::alloc::Global;
 
 /// Answers the lines of the input, one after the other, on shard 0 from its start.
 pub fn run<I: Source, K: Sink>(alloc: Global, input: &mut I, output: &mut K) -> End
     ensures replays { Replays result (I.left input.old) (I.left input.new) (K.written output.old) (K.written output.new) }
-    ensures source { BlamesSourceEnd result (I.faults input.old) (I.faults input.new) (I.lulls input.new) }
-    ensures sink { BlamesSink result (K.faults output.old) (K.faults output.new) (K.lulls output.new) }
+    ensures source { BlamesSourceEnd result (I.faults input.old) (I.faults input.new) (I.lulls input.old) (I.lulls input.new) }
+    ensures sink { BlamesSink result (K.faults output.old) (K.faults output.new) (K.lulls output.old) (K.lulls output.new) }
 {
     legal_histories_are_accounted();
+    legal_histories_are_cared();
+    reports_say_that_none_waits();
     let mut shard = Shard::start(alloc, 0);
     let mut pending = Pending::new(alloc);
     for count in 0..=LINES {

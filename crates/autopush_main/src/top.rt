@@ -1,10 +1,9 @@
 //! The top call.
-ghost use Rattle.std.specs.Prelude.{◌≡◌, ◌↔◌, ◌⊎◌, ◌==◌, [], ◌∷◌, map, codes, IsTrue, string_bytes};
+ghost use Rattle.std.specs.Prelude.{◌≡◌, ◌≤◌, ◌↔◌, ◌⊎◌, ◌==◌, [], ◌∷◌, map, codes, IsTrue, string_bytes};
 ghost use Rattle.std.specs.List.{list_any};
 ghost use Rattle.std.specs.Io.KnownBytes.{Keeps};
-ghost use Rattle.autopush_main.specs.Known.{HasCause};
-ghost use Rattle.autopush_main.specs.Replay.{IsDone, IsRefusal, IsBroken};
-ghost use Rattle.autopush_main.specs.Turns.{IsCut};
+ghost use Rattle.autopush_main.specs.Known.{NoFault, HasCause};
+ghost use Rattle.autopush_main.specs.Replay.{IsDone, IsRefusal, IsBroken, IsCut};
 
 use crate::run::run;
 use crate::turn::End;
@@ -31,19 +30,25 @@ fn is_replay(words: &[String]) -> bool
 ///   written is `refused line L` with its number;
 /// - 5: the source's count of faults rose, or it had nothing 1,000,000,000 times in a row; all lines that were whole
 ///   before were answered;
-/// - 6: the sink's count of faults rose, or it took nothing 1,000,000,000 times in a row; a front of the text was written;
-/// - 7: memory ran out; a front of the text was written.
+/// - 6: the sink's count of faults rose, or it took nothing 1,000,000,000 times in a row; the replies to all earlier lines
+///   were written whole, and a front of the last one, or of `refused line L`;
+/// - 7: memory ran out; what was written is such a text, or ends with a whole reply.
+///
+/// A fault ends the replay at once: at each status but 5 the source's count of faults is as it was, and at each but 6 the
+/// sink's. No more than 1,000,000 lines are answered, whatever the status.
 pub fn autopush_replay<I: Source, K: Sink>(
     alloc: Global,
     words: &[String],
     input: &mut I,
     output: &mut K,
 ) -> u8
-    // 2 comes exactly where the words aren't the one word, and then nothing is read or written.
+    // 2 comes exactly where the words aren't the one word, and then nothing is called, read or written.
     ensures words { result ≡ 2 → ¬ (map string_bytes words.now ≡ codes "replay" ∷ []) }
     ensures wrong_words { ¬ (map string_bytes words.now ≡ codes "replay" ∷ []) → result ≡ 2 }
     ensures nothing_written { result ≡ 2 → Keeps (K.written output.old) (K.written output.new) }
     ensures nothing_read { result ≡ 2 → Keeps (I.left input.old) (I.left input.new) }
+    ensures same_source { result ≡ 2 → input.new ≡ input.old }
+    ensures same_sink { result ≡ 2 → output.new ≡ output.old }
 
     // There are no other statuses.
     ensures known { IsTrue (list_any (λ s. s == result) (0 ∷ 2 ∷ 4 ∷ 5 ∷ 6 ∷ 7 ∷ [])) }
@@ -52,11 +57,17 @@ pub fn autopush_replay<I: Source, K: Sink>(
     ensures done { result ≡ 0 → IsDone (I.left input.old) (I.left input.new) (K.written output.old) (K.written output.new) }
     ensures refused { result ≡ 4 → IsRefusal (I.left input.old) (I.left input.new) (K.written output.old) (K.written output.new) }
     ensures broken { result ≡ 5 → IsBroken (I.left input.old) (I.left input.new) (K.written output.old) (K.written output.new) }
-    ensures cut { (result ≡ 6) ⊎ (result ≡ 7) → IsCut (I.left input.old) (K.written output.old) (K.written output.new) }
+    ensures cut { (result ≡ 6) ⊎ (result ≡ 7) → IsCut result (I.left input.old) (I.left input.new) (K.written output.old) (K.written output.new) }
 
-    // Faults come only by the counts of the source and of the sink.
-    ensures read_fault { result ≡ 5 → HasCause (I.faults input.old) (I.faults input.new) (I.lulls input.new) }
-    ensures write_fault { result ≡ 6 → HasCause (K.faults output.old) (K.faults output.new) (K.lulls output.new) }
+    // A fault of the source ends the replay with 5 and comes at no other status, and so does one of the sink with 6.
+    ensures read_fault { result ≡ 5 → HasCause (I.faults input.old) (I.faults input.new) (I.lulls input.old) (I.lulls input.new) }
+    ensures no_read_fault { ¬ (result ≡ 5) → NoFault (I.faults input.old) (I.faults input.new) (I.lulls input.old) (I.lulls input.new) }
+    ensures write_fault { result ≡ 6 → HasCause (K.faults output.old) (K.faults output.new) (K.lulls output.old) (K.lulls output.new) }
+    ensures no_write_fault { ¬ (result ≡ 6) → NoFault (K.faults output.old) (K.faults output.new) (K.lulls output.old) (K.lulls output.new) }
+
+    // The counts of faults never fall.
+    ensures source_faults { I.faults input.old ≤ I.faults input.new }
+    ensures sink_faults { K.faults output.old ≤ K.faults output.new }
 {
     if !is_replay(words) {
         return 2;

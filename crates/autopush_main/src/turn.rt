@@ -5,10 +5,10 @@ ghost use Rattle.autopush_main.specs.Turns.{Answers, DoesLine, DoesLast, Turns, 
 
 use crate::pending::{LINE, Next, Pending, next_line};
 use crate::put::{Written, put_all};
-use crate::shard::Shard;
 use push_model::{NoMemory, Text};
 use push_outside::{Sink, Source};
 use schedule_text::{LineFault, print_reply, read_line};
+use shard_core::Shard;
 use std::alloc::Global;
 
 /// The most lines of a schedule.
@@ -59,7 +59,7 @@ fn refusal_text(alloc: Global, number: u32) -> Result<String, NoMemory>
 fn refuse<K: Sink>(alloc: Global, output: &mut K, count: u32) -> End
     requires { count ≤ 1000000 }
     ensures written { RefusesBy result count (K.written output.old) (K.written output.new) }
-    ensures cause { BlamesSink result (K.faults output.old) (K.faults output.new) (K.lulls output.new) }
+    ensures cause { BlamesSink result (K.faults output.old) (K.faults output.new) (K.lulls output.old) (K.lulls output.new) }
 {
     let Ok(text) = refusal_text(alloc, count + 1) else {
         return End::NoMemory;
@@ -81,7 +81,7 @@ fn do_line<K: Sink>(
 ) -> Option<End>
     requires { count ≤ 1000000 }
     ensures done { DoesLine result line.now count shard.old shard.new (K.written output.old) (K.written output.new) }
-    ensures cause { Blames result (K.faults output.old) (K.faults output.new) (K.lulls output.new) }
+    ensures cause { Blames result (K.faults output.old) (K.faults output.new) (K.lulls output.old) (K.lulls output.new) }
 {
     if count == LINES {
         return Some(refuse(alloc, output, count));
@@ -106,8 +106,8 @@ fn finish<K: Sink>(
     count: u32,
 ) -> Option<End>
     requires { count ≤ 1000000 }
-    ensures done { DoesLast result line.now count shard.old (K.written output.old) (K.written output.new) }
-    ensures cause { Blames result (K.faults output.old) (K.faults output.new) (K.lulls output.new) }
+    ensures done { DoesLast result line.now count shard.old shard.new (K.written output.old) (K.written output.new) }
+    ensures cause { Blames result (K.faults output.old) (K.faults output.new) (K.lulls output.old) (K.lulls output.new) }
 {
     if line.is_empty() {
         return Some(End::Done);
@@ -129,8 +129,8 @@ pub fn turn<I: Source, K: Sink>(
 ) -> Option<End>
     requires { count ≤ 1000000 }
     ensures turns { Turns result (I.left input.old) (I.left input.new) pending.old pending.new count shard.old shard.new (K.written output.old) (K.written output.new) }
-    ensures source { BlamesSource result (I.faults input.old) (I.faults input.new) (I.lulls input.new) }
-    ensures sink { Blames result (K.faults output.old) (K.faults output.new) (K.lulls output.new) }
+    ensures source { BlamesSource result (I.faults input.old) (I.faults input.new) (I.lulls input.old) (I.lulls input.new) }
+    ensures sink { Blames result (K.faults output.old) (K.faults output.new) (K.lulls output.old) (K.lulls output.new) }
 {
     match next_line(input, pending) {
         Next::Line(n) => {

@@ -1,7 +1,0 @@
-use Rattle.std.proofs.Common.{◌∙◌, ap}
-use Rattle.push_model.specs.Worlds.{World}
-use Rattle.autopush_main.proofs.Counts.{counts_of-all}
-use Rattle.autopush_main.proofs.shard.Shard.counts.Goals as goal
-
-pub returns : goal.returns
-returns c = c.count_cells.ensures ∙ counts_of-all c.args.self.now c.self.inside.cells.entries (ap (λ (w : World). w.cells) c.self.view_is)

@@ -1,8 +1,0 @@
-use Rattle.std.proofs.Common.{◌∙◌}
-use Rattle.std.specs.List.{list_any}
-use Rattle.push_model.specs.Cells.{is_flight}
-use Rattle.autopush_main.proofs.Values.{find-values}
-use Rattle.autopush_main.proofs.shard.Shard.flight_cell.Goals as goal
-
-pub returns : goal.returns
-returns c = rw (← c.self.view_is) (c.find_flight.ensures ∙ find-values (λ x. list_any (is_flight c.args.op) x.flights) c.self.inside.cells.entries)
