@@ -1,38 +1,13 @@
-//! Each call that may want memory, made once with ample memory.
+//! Each call on values, lists and flights that may want memory, made once with ample memory.
 
+use crate::support::{message, shared};
+use flight_rows::{Flight, Flights};
 use push_model::{
-    Ask, Blob, ChannelId, Coding, IdList, Message, MsgId, NodeId, Op, Pages, SessionId, Shared,
-    Step, Terms, Text, Token, Topic, Uaid, Urgency,
+    Blob, ChannelId, IdList, Moment, MsgId, NodeId, Op, Pages, Shared, Stage, Text, Token, Topic,
+    Uaid, Users,
 };
-use schedule_text::print_reply;
 use std::alloc::Global;
-use std::process::Abort;
 use std::test::Fail;
-use user_cell::UserCell;
-
-fn message(alloc: Global, number: u64, payload: &[u8]) -> Result<Message, Fail> {
-    if payload.is_empty() || payload.len() > 4096 {
-        return Err(Fail::from("a payload of 1 to 4096 bytes"));
-    }
-    let ask = Ask {
-        terms: Terms {
-            ttl: 60,
-            topic: None,
-            urgency: Urgency::Normal,
-            coding: Coding::Aes128gcm,
-        },
-        encryption: Blob::copy(alloc, b"")?,
-        crypto_key: Blob::copy(alloc, b"")?,
-        payload: Blob::copy(alloc, payload)?,
-    };
-    Ok(Message {
-        id: MsgId { shard: 0, number },
-        uaid: Uaid(1),
-        chid: ChannelId(5),
-        ask,
-        accepted: 0,
-    })
-}
 
 #[test]
 fn values(rt: HostRuntime) -> Result<(), Fail> {
@@ -53,6 +28,20 @@ fn values(rt: HostRuntime) -> Result<(), Fail> {
         assert_eq!(rt; Topic::new(text).is_some(), valid);
     }
     Ok(())
+}
+
+#[test]
+fn moments(rt: HostRuntime) {
+    assert_eq!(rt; Moment::zero().seconds(), 0);
+    for (seconds, moment) in [
+        (0, Some(0)),
+        (60, Some(60)),
+        (4_611_686_018_427_387_903, Some(4_611_686_018_427_387_903)),
+        (4_611_686_018_427_387_904, None),
+        (u64::MAX, None),
+    ] {
+        assert_eq!(rt; Moment::new(seconds).map(|m| m.seconds()), moment);
+    }
 }
 
 #[test]
@@ -79,62 +68,46 @@ fn lists(rt: HostRuntime) -> Result<(), Fail> {
     Ok(())
 }
 
-// Makes the step, and compares the reply's line.
-fn answers(
-    rt: &impl Abort,
-    alloc: Global,
-    cell: &mut UserCell,
-    step: Step,
-    line: &str,
-) -> Result<(), Fail> {
-    let reply = cell.step(alloc, 0, &step)?;
-    assert_eq!(rt; print_reply(alloc, &reply)?.as_str(), line);
+#[test]
+fn users(rt: HostRuntime) -> Result<(), Fail> {
+    let mut users = Users::new(rt.alloc());
+    let node = NodeId::new(3);
+    users.push(Uaid(7), node, 100)?;
+    users.push(Uaid(8), None, 101)?;
+    assert_eq!(rt; users.len(), 2);
+    assert_eq!(rt; users.at(0), (Uaid(7), node, 100));
+    assert_eq!(rt; users.at(1), (Uaid(8), None, 101));
     Ok(())
 }
 
-// Begins a flight, and compares the reply's line.
-fn begins(rt: &impl Abort, alloc: Global, cell: &mut UserCell, op: Op) -> Result<(), Fail> {
-    let message = message(alloc, 1, b"hi")?;
-    let reply = cell.begin(alloc, op, Token([0; 24]), message)?;
-    assert_eq!(rt; print_reply(alloc, &reply)?.as_str(), "begun 1 1 100\n");
-    Ok(())
+fn token(first: u8) -> Token {
+    let mut bytes = [0; 24];
+    bytes[0] = first;
+    Token(bytes)
 }
 
-// A session with a channel.
-fn opened(rt: &impl Abort, alloc: Global, s: SessionId) -> Result<UserCell, Fail> {
-    let mut cell = UserCell::new(alloc, s.uaid);
-    answers(rt, alloc, &mut cell, Step::Create(s), "made\n")?;
-    answers(rt, alloc, &mut cell, Step::Attach(s), "attached .\n")?;
-    let register = Step::Register(s, ChannelId(5), Token([0; 24]));
-    answers(rt, alloc, &mut cell, register, "endpoint 0\n")?;
-    Ok(cell)
-}
-
-fn first_session() -> Result<SessionId, Fail> {
-    let node = NodeId::new(1).ok_or("node 1")?;
-    Ok(SessionId {
-        uaid: Uaid(1),
-        node,
-        at: 100,
+fn flight(alloc: Global, number: u64) -> Result<Flight, Fail> {
+    Ok(Flight {
+        message: shared(alloc, number)?,
+        token: token(1),
+        stage: Stage::Store,
     })
 }
 
 #[test]
-fn a_cell(rt: HostRuntime) -> Result<(), Fail> {
+fn flights(rt: HostRuntime) -> Result<(), Fail> {
     let alloc = rt.alloc();
-    let s = first_session()?;
-    let op = Op { pass: 1, number: 1 };
-    let mut cell = opened(&rt, alloc, s)?;
-    begins(&rt, alloc, &mut cell, op)?;
-    answers(&rt, alloc, &mut cell, Step::Direct(op), "here\n")?;
-    answers(
-        &rt,
-        alloc,
-        &mut cell,
-        Step::TakeDirect(s),
-        "page 1:5:6869\n",
-    )?;
-    assert_eq!(rt; cell.held(), 1);
-    assert_eq!(rt; cell.flights(), 1);
+    let mut flights = Flights::new(alloc);
+    let first = Op { pass: 1, k: 1 };
+    let second = Op { pass: 1, k: 2 };
+    assert!(rt; flights.begin(first, flight(alloc, 7)?)?);
+    assert!(rt; !flights.begin(first, flight(alloc, 8)?)?);
+    flights.append(second, flight(alloc, 9)?)?;
+    let [one, other] = flights.rows() else {
+        return Err(Fail::from("two flights"));
+    };
+    assert_eq!(rt; one.message.message().id.number, 7);
+    assert_eq!(rt; other.message.message().id.number, 9);
+    assert_eq!(rt; other.op, second);
     Ok(())
 }

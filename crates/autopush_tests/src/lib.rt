@@ -4,9 +4,15 @@
 #[cfg(test)]
 mod calls;
 #[cfg(test)]
+mod cells;
+#[cfg(test)]
 mod faults;
 #[cfg(test)]
 mod long;
+#[cfg(test)]
+mod parts;
+#[cfg(test)]
+mod shards;
 #[cfg(test)]
 mod stored;
 #[cfg(test)]

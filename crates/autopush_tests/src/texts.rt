@@ -1,8 +1,8 @@
 //! Lines that are read, and printed again; lines that are refused; and replies that are printed.
 
 use push_model::{
-    AckedFrom, ChannelId, Counts, Message, MsgId, NodeId, Pages, Reply, Shared, Stage, Step, Text,
-    Token, Uaid,
+    AckedFrom, ChannelId, Counts, Message, Moment, MsgId, NodeId, Pages, Reason, Reply, Shared,
+    Stage, Step, Text, Token, Uaid, Users,
 };
 use schedule_text::{LineFault, print_reply, print_step, read_line};
 use std::alloc::Global;
@@ -55,6 +55,44 @@ fn is_refused(rt: &impl Abort, alloc: Global, line: &str) {
 }
 
 #[test]
+fn more_lines_are_printed_again(rt: HostRuntime) -> Result<(), Fail> {
+    let alloc = rt.alloc();
+    for line in [
+        "create 2 1 100",
+        "create 1 2 100",
+        "begin 3 7 a0b1 0 . normal 00ff",
+        "begin 3 7 a0b1 60 Az-_09 very-low 00ff",
+        "begin 3 7 a0b1 60 . low 00ff",
+        "begin 3 7 a0b1 60 t high 00ff",
+        "reread s 1 1 100",
+        "nudge s 1 1 100",
+        "heard s 1 1 100",
+        "lost s ffffffffffffffffffffffffffffffff 8 100",
+        "clear s 1 1 100",
+        "clear f 3 7",
+        "tick 0",
+        "tick 4611686018427387903",
+        "claim 1 8 100",
+        "unregister 1 1 100 ff",
+        "renew 1 1 100",
+        "close 1 1 100",
+        "release 1 1 100",
+        "save 1 1 100",
+        "notif 8 1",
+        "kill 1",
+        "up 8",
+        "expire ff",
+        "drop 0",
+        "orphans",
+        "idle",
+    ] {
+        let text = again(alloc, line)?;
+        assert_eq!(rt; text.as_str(), line);
+    }
+    Ok(())
+}
+
+#[test]
 fn other_lines_are_refused(rt: HostRuntime) -> Result<(), Fail> {
     let alloc = rt.alloc();
     for line in [
@@ -87,6 +125,12 @@ fn other_lines_are_refused(rt: HostRuntime) -> Result<(), Fail> {
         "register 1 1 100 5 .",
         "register 1 1 100 5 1000000000000000000000000000000000000000000000000",
         "begin 1 1 1ab 2592001 . normal .",
+        "begin 1 1 1ab 60 abcdefghijklmnopqrstuvwxyz-_01234 normal .",
+        "begin 1 1 1ab 60 a+b normal .",
+        "begin 1 1 1ab 60 . urgent .",
+        "tick 4611686018427387904",
+        "kill 0",
+        "up 9",
         "begin 1 1 1ab 60 . Normal .",
         "begin 1 1 1ab 60 . normal 0",
         "begin 1 1 1ab 60 . normal 0F",
@@ -112,26 +156,15 @@ fn more_lines_are_refused(rt: HostRuntime) -> Result<(), Fail> {
         "caf\u{e9}",
         "report\n",
         "create 1  1 100",
-        "create 2 1 100",
-        "create 1 2 100",
         "create 1 1 +1",
         "register 1 1 100 FF a0b1",
         "register 1 1 100 ff 0a0b1",
-        "begin 3 7 a0b1 0 . normal 00ff",
-        "begin 3 7 a0b1 60 topic normal 00ff",
-        "begin 3 7 a0b1 60 . low 00ff",
         "begin 3 7 a0b1 60 . normal 00f",
         "begin 3 7 a0b1 60 . normal 00fF",
         "begin 3 7 a0b1 2592001 . normal 00ff",
         "store f 3 7",
         "giveup 3",
-        "reread s 1 1 100",
-        "nudge s 1 1 100",
-        "heard s 1 1 100",
-        "lost s 1 1 100",
         "lost 3 7",
-        "check 2 1 100",
-        "topics 1 2 100",
         "plains 1 1",
         "ack 1 1 100 ff 0",
     ] {
@@ -150,7 +183,7 @@ fn message(alloc: Global, number: u64, begin: &str) -> Result<Shared, LineFault>
         uaid: Uaid(1),
         chid: ChannelId(255),
         ask,
-        accepted: 0,
+        accepted: Moment::zero(),
     };
     Shared::new(alloc, message).map_err(|_| LineFault::NoMemory)
 }
@@ -168,6 +201,9 @@ fn prints_replies(rt: HostRuntime) -> Result<(), Fail> {
     let mut pages = Pages::new(alloc);
     pages.push(message(alloc, 12, "begin 3 7 a0b1 60 . normal 00ff")?)?;
     pages.push(message(alloc, 13, "begin 3 8 a0b1 60 . normal .")?)?;
+    let mut users = Users::new(alloc);
+    users.push(Uaid(10), Some(node), 100)?;
+    users.push(Uaid(11), None, 0)?;
     let counts = Counts {
         users: 1,
         stored: 2,
@@ -193,6 +229,7 @@ fn prints_replies(rt: HostRuntime) -> Result<(), Fail> {
         (Reply::NotDue, "notdue\n"),
         (Reply::Page(pages), "page 12:ff:00ff 13:ff:.\n"),
         (Reply::Acked(AckedFrom::Stored), "acked stored\n"),
+        (Reply::Users(users), "users a:2:100 b:.:0\n"),
         (
             Reply::Counts(counts),
             "report users 1 stored 2 held 3 flights 4 unsent 5 orphans 6 waiting 7\n",
@@ -200,6 +237,83 @@ fn prints_replies(rt: HostRuntime) -> Result<(), Fail> {
     ] {
         let text = print_reply(alloc, &reply)?;
         assert_eq!(rt; text.as_str(), line);
+    }
+    Ok(())
+}
+
+#[test]
+fn prints_replies_of_one_word(rt: HostRuntime) -> Result<(), Fail> {
+    let alloc = rt.alloc();
+    for (reply, line) in [
+        (Reply::Made, "made\n"),
+        (Reply::Taken, "taken\n"),
+        (Reply::NodeDown, "nodedown\n"),
+        (Reply::TokenTaken, "tokentaken\n"),
+        (Reply::NoSession, "nosession\n"),
+        (Reply::NoFlight, "noflight\n"),
+        (Reply::NoToken, "notoken\n"),
+        (Reply::IdsSpent, "idsspent\n"),
+        (Reply::NotHere, "nothere\n"),
+        (Reply::Unknown, "unknown\n"),
+        (Reply::Done, "done\n"),
+        (Reply::NoUser, "nouser\n"),
+        (Reply::Renewed, "renewed\n"),
+        (Reply::Kept, "kept\n"),
+        (Reply::Cleared, "cleared\n"),
+        (Reply::AllSaved, "allsaved\n"),
+        (Reply::Dropped, "dropped\n"),
+    ] {
+        assert_eq!(rt; print_reply(alloc, &reply)?.as_str(), line);
+    }
+    Ok(())
+}
+
+#[test]
+fn prints_replies_of_savers_and_nodes(rt: HostRuntime) -> Result<(), Fail> {
+    let alloc = rt.alloc();
+    let node = NodeId::new(8).ok_or(LineFault::Outside)?;
+    let id = MsgId {
+        shard: 0,
+        number: 12,
+    };
+    for (reply, line) in [
+        (Reply::Outrun(300), "outrun 300\n"),
+        (Reply::Moved(Stage::Clear(node, 100)), "moved clear\n"),
+        (Reply::Acked(AckedFrom::Direct), "acked direct\n"),
+        (Reply::Stale(300), "stale 300\n"),
+        (Reply::Claimed(None), "claimed .\n"),
+        (Reply::Claimed(Some(node)), "claimed 8\n"),
+        (Reply::Saving(500), "saving 500\n"),
+        (Reply::Saved(id), "saved 12\n"),
+        (Reply::Left(id, Reason::Channel), "left 12 channel\n"),
+        (Reply::Left(id, Reason::Zero), "left 12 zero\n"),
+        (Reply::Left(id, Reason::Expired), "left 12 expired\n"),
+        (Reply::Left(id, Reason::Replaced), "left 12 replaced\n"),
+        (Reply::Killed(2, 1), "killed 2 1\n"),
+    ] {
+        assert_eq!(rt; print_reply(alloc, &reply)?.as_str(), line);
+    }
+    Ok(())
+}
+
+#[test]
+fn prints_stages(rt: HostRuntime) -> Result<(), Fail> {
+    let alloc = rt.alloc();
+    let node = NodeId::new(1).ok_or(LineFault::Outside)?;
+    for (stage, line) in [
+        (Stage::Direct(node, 100), "stage direct\n"),
+        (Stage::Store, "stage store\n"),
+        (Stage::Reread, "stage reread\n"),
+        (Stage::Nudge(node, 100), "stage nudge\n"),
+        (Stage::ToldNudge(true, node, 100), "stage toldnudge\n"),
+        (Stage::Clear(node, 100), "stage clear\n"),
+        (Stage::Saving, "stage saving\n"),
+        (Stage::Idle, "stage idle\n"),
+        (Stage::Topic, "stage topic\n"),
+        (Stage::Plain, "stage plain\n"),
+        (Stage::Displaced, "stage displaced\n"),
+    ] {
+        assert_eq!(rt; print_reply(alloc, &Reply::Stage(stage))?.as_str(), line);
     }
     Ok(())
 }
