@@ -2,83 +2,216 @@
 """A second reading of docs/FORMATS.md: the replies to random schedules, worked out here, against those of the program.
 
 The proofs say that the program is its definitions. This asks whether the definitions are what the page says. It runs the
-program that `rt run` built; ./replay builds it. Usage: second_reading.py [SCHEDULES [LINES [SEED]]]
+program that the gate left (`rt run` builds it too), and counts which kinds of lines met which kinds of replies.
+Usage: second_reading.py [SCHEDULES [LINES [SEED]]]
 """
+import collections
 import pathlib
 import random
 import subprocess
 import sys
 
 PROGRAM = pathlib.Path(__file__).resolve().parent.parent / "crates/autopush/out/autopush"
+IDLE = 5_184_000
 
 
 class Session:
-    def __init__(self, at):
-        self.at = at
+    def __init__(self, node, at):
+        self.node, self.at = node, at
         self.displaced = False
         self.inbox, self.direct, self.sent = [], [], []
         self.check, self.fetch = True, "idle"
 
+    def held(self):
+        return self.direct + self.inbox
 
-class Shard:
-    """The user 1 on node 1, the clock at 0, as the page describes them."""
+    def stage(self):
+        return "displaced" if self.displaced else self.fetch
+
+
+class Saver:
+    def __init__(self, session):
+        self.node, self.at = session.node, session.at
+        self.held, self.saved = session.held(), []
+        self.stage = ("saving",)
+
+
+class User:
+    def __init__(self, node, at, clock):
+        self.node, self.at, self.touched = node, at, clock
+        self.channels, self.rows = [], []
+
+    def token_of(self, channel):
+        return next((t for c, t in self.channels if c == channel), None)
+
+    def clear_marks(self, node, at):
+        if (self.node, self.at) == (node, at):
+            for row in self.rows:
+                row["orphan"] = False
+
+    def unroute(self, node, at):
+        named = (self.node, self.at) == (node, at)
+        if named:
+            self.node = None
+        return named
+
+
+class Cell:
+    """What belongs to one uaid."""
 
     def __init__(self):
-        self.user = None  # the moment that the route row names, the channels, the rows
-        self.claims, self.sessions, self.flights = [], [], {}
-        self.next = 1
+        self.user, self.claims, self.sessions, self.savers, self.flights = None, [], [], [], {}
+
+    def attached(self, node, at):
+        return next((x for x in self.sessions if (x.node, x.at) == (node, at) and not x.displaced), None)
+
+    def named(self, node, at):
+        return next((x for x in self.sessions if (x.node, x.at) == (node, at)), None)
+
+    def at_node(self, node):
+        return next((x for x in self.sessions if x.node == node and not x.displaced), None)
+
+    def saver(self, node, at):
+        return next((v for v in self.savers if (v.node, v.at) == (node, at)), None)
+
+    def routed(self):
+        return self.attached(self.user.node, self.user.at) if self.user and self.user.node else None
+
+    def unsent(self):
+        x = self.routed()
+        ids = {i for _, i in x.sent} if x else ()
+        return [r for r in self.user.rows if r["message"]["id"] not in ids] if x else []
+
+    def told(self, node):
+        """The session at the node is told to look at the rows."""
+        x = self.at_node(node)
+        if x:
+            x.check = True
+            self.user.clear_marks(x.node, x.at)
+        return bool(x)
+
+    def waiting(self):
+        return [r for r in self.unsent() if not self.covered(self.routed(), r)]
+
+    def covered(self, x, row):
+        has_topic, number = row["message"]["topic"] != ".", row["message"]["id"]
+        if x.check or row["orphan"] or x.fetch == "topic" or (x.fetch == "plain" and not has_topic):
+            return True
+        actors = [f["stage"] for f in self.flights.values() if f["message"]["id"] == number]
+        actors += [v.stage for v in self.savers if number in v.saved]
+        return any(s[0] in ("reread", "saving") or (s[0] in ("nudge", "clear") and s[1:] == (x.node, x.at)) for s in actors)
+
+
+class Shard:
+    """Shard 0, as the page describes it."""
+
+    def __init__(self):
+        self.clock, self.next, self.down, self.cells = 0, 1, set(), {}
 
     # ---- parts
 
-    def attached(self, at):
-        return next((x for x in self.sessions if x.at == at and not x.displaced), None)
+    def cell(self, uaid):
+        return self.cells.setdefault(uaid, Cell())
 
-    def at_node(self):
-        return next((x for x in self.sessions if not x.displaced), None)
+    def expired(self, message):
+        return message["ttl"] > 0 and message["accepted"] + message["ttl"] <= self.clock
 
-    def channel_of(self, token):
-        return next((c for c, t in self.user["channels"] if t == token), None) if self.user else None
+    def owner(self, token):
+        """The uaid and the channel that have the token."""
+        for uaid in sorted(self.cells):
+            user = self.cells[uaid].user
+            for channel, its in user.channels if user else ():
+                if its == token:
+                    return uaid, channel
+        return None
 
-    def clear_marks(self, at):
-        if self.user and self.user["routed"] == at:
-            for row in self.user["rows"]:
-                row["orphan"] = False
+    def flight(self, op):
+        return next(((c, c.flights[op]) for c in self.cells.values() if op in c.flights), (None, None))
 
-    # ---- steps of sessions
+    def page(self, messages):
+        return "page" + "".join(f" {m['id']}:{m['channel']}:{m['payload']}" for m in messages)
 
-    def create(self, at):
-        if self.user:
+    # ---- users
+
+    def create(self, uaid, node, at):
+        cell = self.cell(uaid)
+        if cell.user:
             return "taken"
-        self.user = {"routed": at, "channels": [], "rows": []}
-        self.claims.append(at)
+        cell.user = User(node, at, self.clock)
+        cell.claims.append((node, at))
         return "made"
 
-    def attach(self, at):
-        if at not in self.claims:
+    def claim(self, uaid, node, at):
+        cell = self.cell(uaid)
+        user = cell.user
+        if not user:
+            return "nouser"
+        if user.at >= at:
+            return f"stale {user.at}"
+        previous = user.node
+        user.node, user.at, user.touched = node, at, self.clock
+        cell.claims.append((node, at))
+        return f"claimed {previous or '.'}"
+
+    def drop(self, uaid):
+        cell = self.cell(uaid)
+        if not cell.user:
+            return "kept"
+        flights = cell.flights
+        self.cells[uaid] = Cell()
+        self.cells[uaid].flights = flights
+        return "dropped"
+
+    def is_idle(self, cell):
+        attached = any(not x.displaced for x in cell.sessions)
+        return bool(cell.user) and not attached and self.clock >= cell.user.touched + IDLE
+
+    def expire(self, uaid):
+        return self.drop(uaid) if self.is_idle(self.cell(uaid)) else "kept"
+
+    # ---- sessions
+
+    def attach(self, uaid, node, at):
+        cell = self.cell(uaid)
+        if node in self.down:
+            return "nodedown"
+        if (node, at) not in cell.claims:
             return "notclaimed"
-        self.claims.remove(at)
-        other = self.at_node()
+        cell.claims.remove((node, at))
+        other = cell.at_node(node)
         if other and other.at > at:
             return f"outrun {other.at}"
         if other:
             other.displaced = True
-        self.sessions.append(Session(at))
-        self.clear_marks(at)
+        cell.sessions.append(Session(node, at))
+        cell.user.clear_marks(node, at)
         return f"attached {other.at}" if other else "attached ."
 
-    def register(self, at, channel, token):
-        if not self.attached(at):
+    def register(self, uaid, node, at, channel, token):
+        cell = self.cell(uaid)
+        if not cell.attached(node, at):
             return "nosession"
-        for known, its in self.user["channels"]:
-            if known == channel:
-                return f"endpoint {its}"
-        if self.channel_of(token) is not None:
+        its = cell.user.token_of(channel)
+        if its is not None:
+            return f"endpoint {its}"
+        if self.owner(token):
             return "tokentaken"
-        self.user["channels"].append((channel, token))
+        cell.user.channels.append((channel, token))
         return f"endpoint {token}"
 
-    def check(self, at):
-        x = self.attached(at)
+    def unregister(self, uaid, node, at, channel):
+        cell = self.cell(uaid)
+        if not cell.attached(node, at):
+            return "nosession"
+        user = cell.user
+        user.channels = [c for c in user.channels if c[0] != channel]
+        user.rows = [r for r in user.rows if r["message"]["channel"] != channel]
+        for x in cell.sessions:
+            x.sent = [pair for pair in x.sent if pair[0] != channel]
+        return "done"
+
+    def check(self, uaid, node, at):
+        x = self.cell(uaid).attached(node, at)
         if not x:
             return "nosession"
         if not x.check or x.sent or x.fetch != "idle":
@@ -86,41 +219,33 @@ class Shard:
         x.check, x.fetch = False, "topic"
         return "due"
 
-    def page(self, messages):
-        return "page" + "".join(f" {m['id']}:{m['channel']}:{m['payload']}" for m in messages)
-
-    def topics(self, at):
-        x = self.attached(at)
+    def fetch(self, uaid, node, at, kind):
+        cell = self.cell(uaid)
+        x = cell.attached(node, at)
         if not x:
             return "nosession"
-        if x.fetch != "topic":
-            return f"stage {x.fetch}"
-        x.fetch = "plain"  # no line has a topic today
-        return "page"
-
-    def plains(self, at):
-        x = self.attached(at)
-        if not x:
-            return "nosession"
-        if x.fetch != "plain":
+        if x.fetch != kind:
             return f"stage {x.fetch}"
         ids = {i for _, i in x.sent}
-        rows = [r["message"] for r in self.user["rows"] if r["message"]["id"] not in ids]
+        rows = [r["message"] for r in cell.user.rows]
+        rows = [m for m in rows if (m["topic"] != ".") == (kind == "topic") and m["id"] not in ids]
         x.sent += [(m["channel"], m["id"]) for m in rows[:10]]
         x.check = x.check or len(rows) > 10
-        x.fetch = "idle"
+        x.fetch = "plain" if kind == "topic" else "idle"
         return self.page(rows[:10])
 
-    def take(self, at):
-        x = self.attached(at)
+    def take(self, uaid, node, at):
+        x = self.cell(uaid).attached(node, at)
         if not x:
             return "nosession"
-        shown, x.inbox = x.inbox[:10], x.inbox[10:]  # the clock stands at 0, so nothing expires
-        x.direct += shown
-        return self.page(shown)
+        timely = [m for m in x.inbox if not self.expired(m)]
+        x.inbox = timely[10:]
+        x.direct += timely[:10]
+        return self.page(timely[:10])
 
-    def ack(self, at, channel, number):
-        x = self.attached(at)
+    def ack(self, uaid, node, at, channel, number):
+        cell = self.cell(uaid)
+        x = cell.attached(node, at)
         if not x:
             return "nosession"
         direct = next((m for m in x.direct if (m["channel"], m["id"]) == (channel, number)), None)
@@ -131,202 +256,438 @@ class Shard:
             x.direct.remove(direct)
         if sent:
             x.sent.remove((channel, number))
-        rows = self.user["rows"]
-        row = next((r for r in rows if r["message"]["id"] == number), None)
+        row = next((r for r in cell.user.rows if r["message"]["id"] == number), None)
         if row:
-            rows.remove(row)
+            cell.user.rows.remove(row)
         return "acked direct" if direct else "acked stored"
 
-    # ---- steps of flights
+    def renew(self, uaid, node, at):
+        cell = self.cell(uaid)
+        x = cell.attached(node, at)
+        if not x:
+            return "nosession"
+        user = cell.user
+        if user.at != at or user.node:
+            return "kept"
+        user.node, user.touched, x.check = node, self.clock, True
+        user.clear_marks(node, at)
+        return "renewed"
 
-    def begin(self, op, token, payload):
-        if op in self.flights:
-            return f"stage {self.flights[op]['stage'][0]}"
-        channel = self.channel_of(token)
-        if channel is None:
-            return "notoken"
-        message = {"id": self.next, "channel": channel, "payload": payload}
-        self.next += 1
-        routed = self.user["routed"]
-        self.flights[op] = {"message": message, "token": token, "stage": ("direct", routed)}
-        return f"begun {message['id']} 1 {routed}"
+    # ---- savers
 
-    def at(self, op, name):
-        """The flight at that stage, or the reply where it isn't there."""
-        flight = self.flights.get(op)
-        if not flight:
-            return None, "noflight"
-        if flight["stage"][0] != name:
-            return None, f"stage {flight['stage'][0]}"
-        return flight, None
+    def close(self, uaid, node, at):
+        cell = self.cell(uaid)
+        x = cell.named(node, at)
+        if not x:
+            saver = cell.saver(node, at)
+            return f"stage {saver.stage[0]}" if saver else "nosession"
+        cell.sessions.remove(x)
+        cell.savers.append(Saver(x))
+        cell.user.touched = self.clock
+        return f"saving {len(x.held())}"
 
-    def direct(self, op):
-        flight, reply = self.at(op, "direct")
+    def of_saver(self, uaid, node, at, names):
+        """The cell and the saver at one of these stages, or the reply where it isn't there."""
+        cell = self.cell(uaid)
+        saver = cell.saver(node, at)
+        if not saver:
+            x = cell.named(node, at)
+            return cell, None, f"stage {x.stage()}" if x else "nosession"
+        if saver.stage[0] not in names:
+            return cell, None, f"stage {saver.stage[0]}"
+        return cell, saver, None
+
+    def release(self, uaid, node, at):
+        cell, saver, reply = self.of_saver(uaid, node, at, ["saving"])
         if reply:
             return reply
-        x, m = self.at_node(), flight["message"]
-        here = bool(x and len(x.inbox) + len(x.direct) < 500 and self.channel_of(flight["token"]) == m["channel"])
+        return "cleared" if cell.user.unroute(node, at) else "kept"
+
+    def save(self, uaid, node, at):
+        cell, saver, reply = self.of_saver(uaid, node, at, ["saving"])
+        if reply:
+            return reply
+        if not saver.held:
+            if saver.saved:
+                saver.stage = ("reread",)
+            else:
+                cell.savers.remove(saver)
+            return "allsaved"
+        m = saver.held.pop(0)
+        if cell.user.token_of(m["channel"]) is None:
+            return f"left {m['id']} channel"
+        if m["ttl"] == 0:
+            return f"left {m['id']} zero"
+        if self.expired(m):
+            return f"left {m['id']} expired"
+        if self.keep(cell.user, m) == "older":
+            return f"left {m['id']} replaced"
+        saver.saved.append(m["id"])
+        return f"saved {m['id']}"
+
+    def keep(self, user, m, limit=None):
+        """The message becomes the last row, unless it is one, a newer one has its topic, or there are too many."""
+        if any(r["message"]["id"] == m["id"] for r in user.rows):
+            return "same"
+        same = None
+        if m["topic"] != ".":
+            same = next((r for r in user.rows if (r["message"]["channel"], r["message"]["topic"]) == (m["channel"], m["topic"])), None)
+        if same and same["message"]["id"] > m["id"]:
+            return "older"
+        if not same and limit and len(user.rows) >= limit:
+            return "full"
+        if same:
+            user.rows.remove(same)
+        user.rows.append({"message": m, "orphan": False})
+        return "joined"
+
+    def saver_reread(self, uaid, node, at):
+        cell, saver, reply = self.of_saver(uaid, node, at, ["reread"])
+        if reply:
+            return reply
+        if cell.user.node:
+            saver.stage = ("nudge", cell.user.node, cell.user.at)
+            return f"names {cell.user.node} {cell.user.at}"
+        cell.savers.remove(saver)
+        return "end 200"
+
+    def saver_nudge(self, uaid, node, at):
+        cell, saver, reply = self.of_saver(uaid, node, at, ["nudge"])
+        if reply:
+            return reply
+        told = cell.told(saver.stage[1])
+        saver.stage = ("toldnudge", told) + saver.stage[1:]
+        return "here" if told else "nothere"
+
+    def saver_heard(self, uaid, node, at):
+        cell, saver, reply = self.of_saver(uaid, node, at, ["toldnudge"])
+        if reply:
+            return reply
+        if saver.stage[1]:
+            cell.savers.remove(saver)
+            return "end 200"
+        saver.stage = ("clear",) + saver.stage[2:]
+        return "moved clear"
+
+    def saver_lost(self, uaid, node, at):
+        cell, saver, reply = self.of_saver(uaid, node, at, ["nudge", "toldnudge"])
+        if reply:
+            return reply
+        saver.stage = ("clear",) + saver.stage[-2:]
+        return "moved clear"
+
+    def saver_clear(self, uaid, node, at):
+        cell, saver, reply = self.of_saver(uaid, node, at, ["clear"])
+        if reply:
+            return reply
+        cell.user.unroute(*saver.stage[1:])
+        cell.savers.remove(saver)
+        return "end 200"
+
+    # ---- flights
+
+    def begin(self, op, token, ttl, topic, payload):
+        _, flight = self.flight(op)
+        if flight:
+            return f"stage {flight['stage'][0]}"
+        owner = self.owner(token)
+        if not owner:
+            return "notoken"
+        uaid, channel = owner
+        cell = self.cells[uaid]
+        m = {"id": self.next, "channel": channel, "payload": payload, "ttl": ttl, "topic": topic, "accepted": self.clock}
+        self.next += 1
+        user = cell.user
+        stage = ("direct", user.node, user.at) if user.node else ("store",)
+        if user.node or ttl:
+            cell.flights[op] = {"message": m, "token": token, "stage": stage}
+        return f"begun {m['id']} {user.node} {user.at}" if user.node else f"begun {m['id']} ."
+
+    def of_flight(self, op, names):
+        cell, flight = self.flight(op)
+        if not flight:
+            return None, None, "noflight"
+        if flight["stage"][0] not in names:
+            return None, None, f"stage {flight['stage'][0]}"
+        return cell, flight, None
+
+    def end(self, cell, op, code):
+        del cell.flights[op]
+        return f"end {code}"
+
+    def has_token(self, cell, flight):
+        return bool(cell.user) and cell.user.token_of(flight["message"]["channel"]) == flight["token"]
+
+    def direct(self, op):
+        cell, flight, reply = self.of_flight(op, ["direct"])
+        if reply:
+            return reply
+        x, m = cell.at_node(flight["stage"][1]), flight["message"]
+        here = bool(x and len(x.held()) < 500 and self.has_token(cell, flight) and not self.expired(m))
         if here:
             x.inbox.append(m)
         flight["stage"] = ("told", here)
         return "here" if here else "nothere"
 
     def store(self, op):
-        flight, reply = self.at(op, "store")
+        cell, flight, reply = self.of_flight(op, ["store"])
         if reply:
             return reply
-        m, rows = flight["message"], self.user["rows"]
-        if self.channel_of(flight["token"]) != m["channel"]:
-            return self.end(op, 410)
-        if not any(r["message"]["id"] == m["id"] for r in rows):
-            if len(rows) >= 1000:
-                return self.end(op, 503)
-            rows.append({"message": m, "orphan": False})
+        if not self.has_token(cell, flight):
+            return self.end(cell, op, 410)
+        if self.expired(flight["message"]):
+            return self.end(cell, op, 201)
+        kept = self.keep(cell.user, flight["message"], 1000)
+        if kept in ("older", "full"):
+            return self.end(cell, op, 201 if kept == "older" else 503)
         flight["stage"] = ("reread",)
         return "stored"
 
-    def end(self, op, code):
-        del self.flights[op]
-        return f"end {code}"
-
     def giveup(self, op):
-        flight = self.flights.get(op)
-        if not flight:
-            return "noflight"
-        if flight["stage"][0] not in ("direct", "told", "store"):
-            return f"stage {flight['stage'][0]}"
-        return self.end(op, 500)
+        cell, flight, reply = self.of_flight(op, ["direct", "told", "store"])
+        return reply or self.end(cell, op, 500)
 
     def reread(self, op):
-        flight, reply = self.at(op, "reread")
+        cell, flight, reply = self.of_flight(op, ["reread"])
         if reply:
             return reply
-        flight["stage"] = ("nudge", self.user["routed"])  # no line clears a route row today
-        return f"names 1 {self.user['routed']}"
+        if cell.user and cell.user.node:
+            flight["stage"] = ("nudge", cell.user.node, cell.user.at)
+            return f"names {cell.user.node} {cell.user.at}"
+        return self.end(cell, op, 201)
 
     def nudge(self, op):
-        flight, reply = self.at(op, "nudge")
+        cell, flight, reply = self.of_flight(op, ["nudge"])
         if reply:
             return reply
-        x = self.at_node()
-        if x:
-            x.check = True
-            self.clear_marks(x.at)
-        flight["stage"] = ("toldnudge", bool(x), flight["stage"][1])
-        return "here" if x else "nothere"
+        told = cell.told(flight["stage"][1])
+        flight["stage"] = ("toldnudge", told) + flight["stage"][1:]
+        return "here" if told else "nothere"
+
+    def unheard(self, cell, op, flight):
+        if flight["message"]["ttl"] == 0:
+            return self.end(cell, op, 201)
+        flight["stage"] = ("store",)
+        return "moved store"
 
     def lost(self, op):
-        flight = self.flights.get(op)
-        if not flight:
-            return "noflight"
-        name = flight["stage"][0]
-        if name in ("direct", "told"):
-            flight["stage"] = ("store",)
-            return "moved store"
-        if name in ("nudge", "toldnudge"):
-            flight["stage"] = ("clear", flight["stage"][-1])
-            return "moved clear"
-        return f"stage {name}"
+        cell, flight, reply = self.of_flight(op, ["direct", "told", "nudge", "toldnudge"])
+        if reply:
+            return reply
+        if flight["stage"][0] in ("direct", "told"):
+            return self.unheard(cell, op, flight)
+        flight["stage"] = ("clear",) + flight["stage"][-2:]
+        return "moved clear"
 
     def heard(self, op):
-        flight = self.flights.get(op)
-        if not flight:
-            return "noflight"
-        stage = flight["stage"]
-        if stage[0] == "told":
-            if stage[1]:
-                return self.end(op, 201)
-            flight["stage"] = ("store",)
-            return "moved store"
-        if stage[0] == "toldnudge":
-            if stage[1]:
-                return self.end(op, 201)
-            flight["stage"] = ("clear", stage[2])
-            return "moved clear"
-        return f"stage {stage[0]}"
+        cell, flight, reply = self.of_flight(op, ["told", "toldnudge"])
+        if reply:
+            return reply
+        if flight["stage"][1]:
+            return self.end(cell, op, 201)
+        if flight["stage"][0] == "told":
+            return self.unheard(cell, op, flight)
+        flight["stage"] = ("clear",) + flight["stage"][2:]
+        return "moved clear"
 
-    # ---- the report
+    def clear(self, op):
+        cell, flight, reply = self.of_flight(op, ["clear"])
+        if reply:
+            return reply
+        if cell.user:
+            cell.user.unroute(*flight["stage"][1:])
+        return self.end(cell, op, 201)
+
+    # ---- the clock, the nodes and the lists
+
+    def tick(self, moment):
+        self.clock = max(self.clock, moment)
+        for cell in self.cells.values():
+            if cell.user:
+                cell.user.rows = [r for r in cell.user.rows if not self.expired(r["message"])]
+        return "done"
+
+    def notif(self, node, uaid):
+        return "here" if self.cell(uaid).told(node) else "nothere"
+
+    def kill(self, node):
+        self.down.add(node)
+        held = orphans = 0
+        for cell in self.cells.values():
+            gone = [x for x in cell.sessions if x.node == node]
+            ended = [v for v in cell.savers if v.node == node]
+            held += sum(len(x.held()) for x in gone) + sum(len(v.held) for v in ended)
+            marked = {i for v in ended if v.stage[0] != "toldnudge" for i in v.saved}
+            for row in cell.user.rows if cell.user else ():
+                if row["message"]["id"] in marked and not row["orphan"]:
+                    row["orphan"] = True
+                    orphans += 1
+            cell.sessions = [x for x in cell.sessions if x.node != node]
+            cell.savers = [v for v in cell.savers if v.node != node]
+            cell.claims = [c for c in cell.claims if c[0] != node]
+        return f"killed {held} {orphans}"
+
+    def up(self, node):
+        self.down.discard(node)
+        return "done"
+
+    def users(self, chosen):
+        named = [(u, self.cells[u].user) for u in sorted(self.cells) if chosen(self.cells[u])][:100]
+        return "users" + "".join(f" {u:x}:{user.node or '.'}:{user.at}" for u, user in named)
+
+    def orphans(self):
+        return self.users(lambda c: bool(c.routed()) and any(r["orphan"] for r in c.user.rows))
+
+    def idle(self):
+        return self.users(self.is_idle)
 
     def report(self):
-        rows = self.user["rows"] if self.user else []
-        routed = self.attached(self.user["routed"]) if self.user else None
-        unsent = [r for r in rows if routed and r["message"]["id"] not in {i for _, i in routed.sent}]
-        waiting = [r for r in unsent if not self.covered(routed, r)]
-        held = sum(len(x.inbox) + len(x.direct) for x in self.sessions)
+        cells = list(self.cells.values())
+        rows = [r for c in cells if c.user for r in c.user.rows]
+        held = sum(len(x.held()) for c in cells for x in c.sessions) + sum(len(v.held) for c in cells for v in c.savers)
+        waiting = sum(len(c.waiting()) for c in cells)
+        assert waiting == 0, "a row waits that nobody is to tell of"
         return (
-            f"report users {int(bool(self.user))} stored {len(rows)} held {held} flights {len(self.flights)} "
-            f"unsent {len(unsent)} orphans {sum(r['orphan'] for r in rows)} waiting {len(waiting)}"
+            f"report users {sum(bool(c.user) for c in cells)} stored {len(rows)} held {held} "
+            f"flights {sum(len(c.flights) for c in cells)} unsent {sum(len(c.unsent()) for c in cells)} "
+            f"orphans {sum(r['orphan'] for r in rows)} waiting {waiting}"
         )
 
-    def covered(self, x, row):
-        if x.check or x.fetch in ("topic", "plain") or row["orphan"]:
-            return True
-        for flight in self.flights.values():
-            stage = flight["stage"]
-            told = stage[0] == "reread" or (stage[0] in ("nudge", "clear") and stage[1] == x.at)
-            if told and flight["message"]["id"] == row["message"]["id"]:
-                return True
-        return False
+
+class Picker:
+    """Draws lines that mostly fit what is there."""
+
+    def __init__(self, pick):
+        self.pick, self.shard, self.stamp = pick, Shard(), 0
+        self.many = pick.choice([1, 3, 8])
+        self.ttls = pick.choice([[60, 3600, 2_592_000], [0, 1, 5, 60], [0, 60, 600, 2_592_000]])
+        self.topics = pick.choice([["."], [".", ".", "t"], ["a", "b", "c", "."], [f"x{i}" for i in range(25)] + ["."]])
+        self.pace = pick.choice([0, 1, 40, 600, 400_000])
+        self.ops = pick.choice([5, 50, 100_000])
+        self.leaving = pick.choice([0.1, 1, 4])
+        self.killing = pick.choice([0, 0.05, 0.5])
+        self.acking = pick.choice([0.3, 3, 9])
+
+    def session(self, among=("sessions", "savers", "claims")):
+        """A uaid, a node and a moment: of one that is there, mostly."""
+        pick, cells = self.pick, self.shard.cells
+        known = []
+        for uaid, cell in cells.items():
+            if "sessions" in among:
+                known += [(uaid, x.node, x.at) for x in cell.sessions]
+            if "savers" in among:
+                known += [(uaid, v.node, v.at) for v in cell.savers]
+            if "claims" in among:
+                known += [(uaid, n, a) for n, a in cell.claims]
+        if known and pick.random() < 0.93:
+            return pick.choice(known)
+        return pick.randint(1, self.many), pick.randint(1, 3), pick.randint(1, self.stamp + 2)
+
+    def op(self):
+        known = [op for cell in self.shard.cells.values() for op in cell.flights]
+        if known and self.pick.random() < 0.9:
+            return self.pick.choice(known)
+        return self.pick.randint(1, 2), self.pick.randint(1, self.ops)
+
+    def number(self, uaid):
+        cell = self.shard.cells.get(uaid)
+        known = [(m["channel"], m["id"]) for x in cell.sessions for m in x.direct] if cell else []
+        known += [pair for x in cell.sessions for pair in x.sent] if cell else []
+        if known and self.pick.random() < 0.9:
+            return self.pick.choice(known)
+        return self.pick.choice("456"), self.pick.randint(1, self.shard.next + 1)
+
+    def line_and_reply(self):
+        """A random line, and the reply that the page says."""
+        pick, shard = self.pick, self.shard
+        kinds, weights = zip(*self.weights().items())
+        kind = pick.choices(kinds, weights)[0]
+        uaid = pick.randint(1, self.many)
+        node = pick.randint(1, 3)
+        if kind in ("create", "claim"):
+            at = self.stamp
+            if pick.random() < 0.8:
+                self.stamp += 1
+                at = self.stamp
+            return f"{kind} {uaid:x} {node} {at}", getattr(shard, kind)(uaid, node, at)
+        if kind in ("expire", "drop"):
+            return f"{kind} {uaid:x}", getattr(shard, kind)(uaid)
+        if kind == "notif":
+            return f"notif {node} {uaid:x}", shard.notif(node, uaid)
+        if kind in ("kill", "up"):
+            return f"{kind} {node}", getattr(shard, kind)(node)
+        if kind in ("orphans", "idle", "report"):
+            return kind, getattr(shard, kind)()
+        if kind == "tick":
+            moment = max(0, shard.clock + pick.randint(-1, 1 + self.pace))
+            return f"tick {moment}", shard.tick(moment)
+        if kind == "begin":
+            op = (pick.randint(1, 2), pick.randint(1, self.ops))
+            token, ttl, topic = pick.choice(self.tokens()), pick.choice(self.ttls), pick.choice(self.topics)
+            payload = pick.choice([".", "00", "6869"])
+            line = f"begin {op[0]} {op[1]} {token} {ttl} {topic} {pick.choice(['very-low', 'low', 'normal', 'high'])} {payload}"
+            return line, shard.begin(op, token, ttl, topic, payload)
+        if kind in ("direct", "store", "giveup"):
+            op = self.op()
+            return f"{kind} {op[0]} {op[1]}", getattr(shard, kind)(op)
+        if kind.startswith("f "):
+            op, verb = self.op(), kind[2:]
+            return f"{verb} f {op[0]} {op[1]}", getattr(shard, verb)(op)
+        if kind.startswith("s "):
+            s, verb = self.session(("savers",)), kind[2:]
+            return f"{verb} s {s[0]:x} {s[1]} {s[2]}", getattr(shard, "saver_" + verb)(*s)
+        among = {"attach": ("claims",), "release": ("savers",), "save": ("savers",), "close": ("sessions",)}
+        s = self.session(among.get(kind, ("sessions",)))
+        name = f"{kind} {s[0]:x} {s[1]} {s[2]}"
+        if kind == "register":
+            channel, token = pick.choice("456"), pick.choice(self.tokens())
+            return f"{name} {channel} {token}", shard.register(*s, channel, token)
+        if kind == "unregister":
+            channel = pick.choice("456")
+            return f"{name} {channel}", shard.unregister(*s, channel)
+        if kind == "ack":
+            channel, number = self.number(s[0])
+            return f"{name} {channel} {number}", shard.ack(*s, channel, number)
+        if kind in ("topics", "plains"):
+            return name, shard.fetch(*s, kind[:-1])
+        return name, getattr(shard, kind)(*s)
+
+    def tokens(self):
+        return [f"{u}{c}" for u in range(1, self.many + 1) for c in "456"] + ["1ab"]
+
+    def weights(self):
+        leaving, killing = self.leaving, self.killing
+        return {
+            "create": 2, "claim": 2 * leaving, "attach": 5, "register": 4, "unregister": 0.4 * leaving,
+            "begin": 14, "direct": 9, "store": 9, "giveup": 0.4, "f reread": 7, "f nudge": 6, "f heard": 8, "f lost": 4, "f clear": 3,
+            "check": 5, "topics": 5, "plains": 5, "take": 4, "ack": self.acking, "renew": 2,
+            "close": 1.5 * leaving, "release": leaving, "save": 6 * leaving, "s reread": 2, "s nudge": 2, "s heard": 2, "s lost": 0.5,
+            "s clear": 1, "notif": 0.6, "tick": 1.5, "kill": killing, "up": 2 * killing, "expire": 0.2, "drop": 0.1 * leaving,
+            "orphans": 0.4, "idle": 0.4, "report": 3,
+        }
 
 
-def line_and_reply(shard, pick, ops, takes, acks):
-    """A random line, and the reply that the page says: of so many ops, with pages and acknowledgements as often as that."""
-    at = pick.choice([100] * 12 + [200, 300])
-    op = (1, pick.randint(1, ops))
-    if shard.flights and pick.random() < 0.7:
-        op = pick.choice(list(shard.flights))
-    channel, token = pick.choice(["5", "6", "0"]), pick.choice(["1ab", "2ab", "0"])
-    number = pick.randint(1, max(1, shard.next + 1)) if pick.random() < 0.5 else max(1, shard.next - pick.randint(1, 6))
-    payload = pick.choice([".", "00", "6869"])
-    session, flight = f"1 1 {at}", f"{op[0]} {op[1]}"
-    return pick.choices(
-        [
-            (f"create {session}", lambda: shard.create(at)),
-            (f"attach {session}", lambda: shard.attach(at)),
-            (f"register {session} {channel} {token}", lambda: shard.register(at, channel, token)),
-            (f"begin {flight} {token} 60 . normal {payload}", lambda: shard.begin(op, token, payload)),
-            (f"direct {flight}", lambda: shard.direct(op)),
-            (f"store {flight}", lambda: shard.store(op)),
-            (f"giveup {flight}", lambda: shard.giveup(op)),
-            (f"reread f {flight}", lambda: shard.reread(op)),
-            (f"nudge f {flight}", lambda: shard.nudge(op)),
-            (f"heard f {flight}", lambda: shard.heard(op)),
-            (f"lost f {flight}", lambda: shard.lost(op)),
-            (f"check {session}", lambda: shard.check(at)),
-            (f"topics {session}", lambda: shard.topics(at)),
-            (f"plains {session}", lambda: shard.plains(at)),
-            (f"take {session}", lambda: shard.take(at)),
-            (f"ack {session} {channel} {number}", lambda: shard.ack(at, channel, number)),
-            ("report", shard.report),
-        ],
-        weights=[1, 2, 2, 12, 8, 8, 0.3, 6, 6, 8, 3, 2, 4, 4, takes, acks, 3],
-    )[0]
-
-
-def schedule(pick, lines):
-    """A schedule and its replies. The first three lines are mostly those that open a session with a channel."""
-    shard = Shard()
+def schedule(pick, lines, met):
+    """A schedule and its replies."""
+    picker = Picker(pick)
     said, replied = [], []
-    if pick.random() < 0.9:
-        opening = [("create 1 1 100", lambda: shard.create(100)), ("attach 1 1 100", lambda: shard.attach(100))]
-        opening.append(("register 1 1 100 5 1ab", lambda: shard.register(100, "5", "1ab")))
-        for line, reply in opening:
-            said.append(line)
-            replied.append(reply())
-    ops, takes, acks = pick.choice([4, 40, 10_000]), pick.choice([0.1, 3]), pick.choice([0.1, 1, 8])
     for _ in range(lines):
-        line, reply = line_and_reply(shard, pick, ops, takes, acks)
+        line, reply = picker.line_and_reply()
         said.append(line)
-        replied.append(reply())
+        replied.append(reply)
+        words = line.split(" ")
+        kind = " ".join(words[:2]) if words[0] in ("reread", "nudge", "heard", "lost", "clear") else words[0]
+        first = reply.split(" ")
+        met[kind, " ".join(first[:2]) if first[0] in ("stage", "moved", "end", "acked") else first[0]] += 1
     return said, replied
 
 
 def main():
     asked = [int(word) for word in sys.argv[1:4]]
     schedules, lines, seed = asked + [100, 3000, 1][len(asked) :]
-    total = 0
+    total, met = 0, collections.Counter()
     for number in range(schedules):
-        said, replied = schedule(random.Random(seed * 1_000_003 + number), lines)
+        said, replied = schedule(random.Random(seed * 1_000_003 + number), lines, met)
         text = "".join(line + "\n" for line in said).encode()
         ran = subprocess.run([PROGRAM, "replay"], input=text, capture_output=True, timeout=60)
         written = ran.stdout.decode().splitlines()
@@ -336,7 +697,12 @@ def main():
             print(f"the program: {written[at:at + 1]}, this reading: {replied[at:at + 1]}")
             return 1
         total += len(said)
-    print(f"{schedules} schedules, {total} lines: the same replies")
+    print(f"{schedules} schedules, {total} lines: the same replies; {len(met)} pairs of a kind of line and a kind of reply:")
+    kinds = collections.defaultdict(list)
+    for (kind, reply), times in sorted(met.items()):
+        kinds[kind].append(f"{reply} {times}")
+    for kind, replies in sorted(kinds.items()):
+        print(f"  {kind}: {', '.join(replies)}")
     return 0
 
 
