@@ -71,12 +71,17 @@ fn lists(rt: HostRuntime) -> Result<(), Fail> {
 #[test]
 fn users(rt: HostRuntime) -> Result<(), Fail> {
     let mut users = Users::new(rt.alloc());
-    let node = NodeId::new(3);
-    users.push(Uaid(7), node, 100)?;
+    users.push(Uaid(7), NodeId::new(3), 100)?;
     users.push(Uaid(8), None, 101)?;
     assert_eq!(rt; users.len(), 2);
-    assert_eq!(rt; users.at(0), (Uaid(7), node, 100));
-    assert_eq!(rt; users.at(1), (Uaid(8), None, 101));
+    let (first, node, at) = users.at(0);
+    assert_eq!(rt; first.0, 7);
+    assert_eq!(rt; node.map(|node| node.get()), Some(3));
+    assert_eq!(rt; at, 100);
+    let (second, none, at) = users.at(1);
+    assert_eq!(rt; second.0, 8);
+    assert!(rt; none.is_none());
+    assert_eq!(rt; at, 101);
     Ok(())
 }
 

@@ -15,30 +15,30 @@ fn again(alloc: Global, line: &str) -> Result<Text, LineFault> {
     print_step(alloc, &step).map_err(|_| LineFault::NoMemory)
 }
 
+const STEPS: &str = "create 1 1 100
+attach 1 1 9223372036854775807
+register 1 1 100 ff a0b1
+register 1 1 100 0 123456789abcdef0123456789abcdef0123456789abcdef0
+begin 18446744073709551615 9223372036854775807 0 2592000 . normal .
+begin 3 7 a0b1 60 . normal 00ff
+direct 3 7
+store 3 7
+giveup 3 7
+reread f 3 7
+nudge f 3 7
+heard f 3 7
+lost f 3 7
+check 1 1 100
+topics 1 1 100
+plains 1 1 100
+take 1 1 100
+ack 1 1 100 ff 12
+report";
+
 #[test]
 fn lines_are_printed_again(rt: HostRuntime) -> Result<(), Fail> {
     let alloc = rt.alloc();
-    for line in [
-        "create 1 1 100",
-        "attach 1 1 9223372036854775807",
-        "register 1 1 100 ff a0b1",
-        "register 1 1 100 0 123456789abcdef0123456789abcdef0123456789abcdef0",
-        "begin 18446744073709551615 9223372036854775807 0 2592000 . normal .",
-        "begin 3 7 a0b1 60 . normal 00ff",
-        "direct 3 7",
-        "store 3 7",
-        "giveup 3 7",
-        "reread f 3 7",
-        "nudge f 3 7",
-        "heard f 3 7",
-        "lost f 3 7",
-        "check 1 1 100",
-        "topics 1 1 100",
-        "plains 1 1 100",
-        "take 1 1 100",
-        "ack 1 1 100 ff 12",
-        "report",
-    ] {
+    for line in STEPS.lines() {
         let text = again(alloc, line)?;
         assert_eq!(rt; text.as_str(), line);
     }
@@ -54,87 +54,120 @@ fn is_refused(rt: &impl Abort, alloc: Global, line: &str) {
     );
 }
 
+const MORE_STEPS: &str = "create 2 1 100
+create 1 2 100
+begin 3 7 a0b1 0 . normal 00ff
+begin 3 7 a0b1 60 Az-_09 very-low 00ff
+begin 3 7 a0b1 60 . low 00ff
+begin 3 7 a0b1 60 t high 00ff
+reread s 1 1 100
+nudge s 1 1 100
+heard s 1 1 100
+lost s ffffffffffffffffffffffffffffffff 8 100
+clear s 1 1 100
+clear f 3 7
+tick 0
+tick 4611686018427387903
+claim 1 8 100
+unregister 1 1 100 ff
+renew 1 1 100
+close 1 1 100
+release 1 1 100
+save 1 1 100
+notif 8 1
+kill 1
+up 8
+expire ff
+drop 0
+orphans
+idle";
+
 #[test]
 fn more_lines_are_printed_again(rt: HostRuntime) -> Result<(), Fail> {
     let alloc = rt.alloc();
-    for line in [
-        "create 2 1 100",
-        "create 1 2 100",
-        "begin 3 7 a0b1 0 . normal 00ff",
-        "begin 3 7 a0b1 60 Az-_09 very-low 00ff",
-        "begin 3 7 a0b1 60 . low 00ff",
-        "begin 3 7 a0b1 60 t high 00ff",
-        "reread s 1 1 100",
-        "nudge s 1 1 100",
-        "heard s 1 1 100",
-        "lost s ffffffffffffffffffffffffffffffff 8 100",
-        "clear s 1 1 100",
-        "clear f 3 7",
-        "tick 0",
-        "tick 4611686018427387903",
-        "claim 1 8 100",
-        "unregister 1 1 100 ff",
-        "renew 1 1 100",
-        "close 1 1 100",
-        "release 1 1 100",
-        "save 1 1 100",
-        "notif 8 1",
-        "kill 1",
-        "up 8",
-        "expire ff",
-        "drop 0",
-        "orphans",
-        "idle",
-    ] {
+    for line in MORE_STEPS.lines() {
         let text = again(alloc, line)?;
         assert_eq!(rt; text.as_str(), line);
     }
     Ok(())
 }
 
+const OTHERS: &str = "Report
+reports
+report 1
+create
+create 1 1
+create 1 1 100 1
+create  1 1 100
+create\t1 1 100
+create 01 1 100
+create 1 01 100
+create 1 0 100
+create 1 9 100
+create 1 1 0100
+create 1 1 +100
+create 1 1 -100
+create 1 1 9223372036854775808
+create 1 1 18446744073709551616
+create 100000000000000000000000000000001 1 100
+register 1 1 100 A 1ab
+register 1 1 100 100000000000000000000000000000000 1ab
+register 1 1 100 5 01ab
+register 1 1 100 5 1aB
+register 1 1 100 5 .
+register 1 1 100 5 1000000000000000000000000000000000000000000000000
+begin 1 1 1ab 2592001 . normal .
+begin 1 1 1ab 60 abcdefghijklmnopqrstuvwxyz-_01234 normal .
+begin 1 1 1ab 60 a+b normal .
+begin 1 1 1ab 60 . urgent .
+tick 4611686018427387904
+kill 0
+up 9
+begin 1 1 1ab 60 . Normal .
+begin 1 1 1ab 60 . normal 0
+begin 1 1 1ab 60 . normal 0F
+begin 1 1 1ab 60 . normal ";
+
 #[test]
 fn other_lines_are_refused(rt: HostRuntime) -> Result<(), Fail> {
+    let alloc = rt.alloc();
+    for line in OTHERS.lines() {
+        is_refused(&rt, alloc, line);
+    }
+    Ok(())
+}
+
+const MORE_OTHERS: &str = "begin 18446744073709551616 1 1ab 60 . normal .
+begin 1 9223372036854775808 1ab 60 . normal .
+direct 1
+direct 1 1 1
+heard 1 1
+heard g 1 1
+ack 1 1 100 5 0
+ack 1 1 100 5 9223372036854775808
+create 1  1 100
+create 1 1 +1
+register 1 1 100 FF a0b1
+register 1 1 100 ff 0a0b1
+begin 3 7 a0b1 60 . normal 00f
+begin 3 7 a0b1 60 . normal 00fF
+begin 3 7 a0b1 2592001 . normal 00ff
+store f 3 7
+giveup 3
+lost 3 7
+plains 1 1
+ack 1 1 100 ff 0";
+
+#[test]
+fn lines_of_other_bytes_are_refused(rt: HostRuntime) -> Result<(), Fail> {
     let alloc = rt.alloc();
     for line in [
         "",
         " report",
         "report ",
         "report\r",
-        "Report",
-        "reports",
-        "report 1",
-        "create",
-        "create 1 1",
-        "create 1 1 100 1",
-        "create  1 1 100",
-        "create\t1 1 100",
-        "create 01 1 100",
-        "create 1 01 100",
-        "create 1 0 100",
-        "create 1 9 100",
-        "create 1 1 0100",
-        "create 1 1 +100",
-        "create 1 1 -100",
-        "create 1 1 9223372036854775808",
-        "create 1 1 18446744073709551616",
-        "create 100000000000000000000000000000001 1 100",
-        "register 1 1 100 A 1ab",
-        "register 1 1 100 100000000000000000000000000000000 1ab",
-        "register 1 1 100 5 01ab",
-        "register 1 1 100 5 1aB",
-        "register 1 1 100 5 .",
-        "register 1 1 100 5 1000000000000000000000000000000000000000000000000",
-        "begin 1 1 1ab 2592001 . normal .",
-        "begin 1 1 1ab 60 abcdefghijklmnopqrstuvwxyz-_01234 normal .",
-        "begin 1 1 1ab 60 a+b normal .",
-        "begin 1 1 1ab 60 . urgent .",
-        "tick 4611686018427387904",
-        "kill 0",
-        "up 9",
-        "begin 1 1 1ab 60 . Normal .",
-        "begin 1 1 1ab 60 . normal 0",
-        "begin 1 1 1ab 60 . normal 0F",
-        "begin 1 1 1ab 60 . normal ",
+        "report\n",
+        "caf\u{e9}",
     ] {
         is_refused(&rt, alloc, line);
     }
@@ -144,30 +177,7 @@ fn other_lines_are_refused(rt: HostRuntime) -> Result<(), Fail> {
 #[test]
 fn more_lines_are_refused(rt: HostRuntime) -> Result<(), Fail> {
     let alloc = rt.alloc();
-    for line in [
-        "begin 18446744073709551616 1 1ab 60 . normal .",
-        "begin 1 9223372036854775808 1ab 60 . normal .",
-        "direct 1",
-        "direct 1 1 1",
-        "heard 1 1",
-        "heard g 1 1",
-        "ack 1 1 100 5 0",
-        "ack 1 1 100 5 9223372036854775808",
-        "caf\u{e9}",
-        "report\n",
-        "create 1  1 100",
-        "create 1 1 +1",
-        "register 1 1 100 FF a0b1",
-        "register 1 1 100 ff 0a0b1",
-        "begin 3 7 a0b1 60 . normal 00f",
-        "begin 3 7 a0b1 60 . normal 00fF",
-        "begin 3 7 a0b1 2592001 . normal 00ff",
-        "store f 3 7",
-        "giveup 3",
-        "lost 3 7",
-        "plains 1 1",
-        "ack 1 1 100 ff 0",
-    ] {
+    for line in MORE_OTHERS.lines() {
         is_refused(&rt, alloc, line);
     }
     Ok(())
