@@ -11,6 +11,7 @@ use router_rows::RouterRow;
 use session_core::SessionCore;
 use shutdown_save::SaverRows;
 use std::alloc::Global;
+use std::process::Abort;
 use std::test::Fail;
 
 const SEVEN: MsgId = MsgId {
@@ -65,26 +66,33 @@ fn channels(rt: HostRuntime) -> Result<(), Fail> {
     Ok(())
 }
 
+// Spells the token whose bytes are all that one, and reads it again.
+fn spells(rt: &impl Abort, alloc: Global, byte: u8, text: &str) -> Result<(), Fail> {
+    assert_eq!(rt; spell(alloc, &Token([byte; 24]))?.as_str(), text);
+    let token = read_token(text.as_bytes()).ok_or("a token")?;
+    assert_eq!(rt; token.0, [byte; 24]);
+    Ok(())
+}
+
 #[test]
 fn tokens(rt: HostRuntime) -> Result<(), Fail> {
     let alloc = rt.alloc();
-    for (bytes, text) in [
-        ([0; 24], "AAAAAAAAAAAAAAAAAAAAAAAAAAAAAAAA"),
-        ([255; 24], "________________________________"),
-        ([0xfb; 24], "-_v7-_v7-_v7-_v7-_v7-_v7-_v7-_v7"),
-    ] {
-        assert_eq!(rt; spell(alloc, &Token(bytes))?.as_str(), text);
-        assert_eq!(rt;
-            read_token(text.as_bytes()).map(|token| token.0),
-            Some(bytes)
-        );
-    }
+    spells(&rt, alloc, 0, "AAAAAAAAAAAAAAAAAAAAAAAAAAAAAAAA")?;
+    spells(&rt, alloc, 255, "________________________________")?;
+    spells(&rt, alloc, 0xfb, "-_v7-_v7-_v7-_v7-_v7-_v7-_v7-_v7")?;
     assert!(rt; read_token(b"AAAAAAAAAAAAAAAAAAAAAAAAAAAAAAA=").is_none());
-    let mut owners = TokenRows::new(alloc);
+    Ok(())
+}
+
+#[test]
+fn owners_of_tokens(rt: HostRuntime) -> Result<(), Fail> {
+    let mut owners = TokenRows::new(rt.alloc());
     owners.insert(Token([1; 24]), Uaid(1), ChannelId(5))?;
     let again = owners.insert(Token([1; 24]), Uaid(2), ChannelId(6));
     assert!(rt; matches!(again, Err(InsertFault::Taken)));
-    assert_eq!(rt; owners.find(&Token([1; 24])), Some((Uaid(1), ChannelId(5))));
+    let (uaid, chid) = owners.find(&Token([1; 24])).ok_or("an owner")?;
+    assert_eq!(rt; uaid.0, 1);
+    assert_eq!(rt; chid.0, 5);
     Ok(())
 }
 

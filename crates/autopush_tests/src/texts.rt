@@ -198,6 +198,13 @@ fn message(alloc: Global, number: u64, begin: &str) -> Result<Shared, LineFault>
     Shared::new(alloc, message).map_err(|_| LineFault::NoMemory)
 }
 
+// Compares the line of the reply.
+fn prints(rt: &impl Abort, alloc: Global, reply: Reply, line: &str) -> Result<(), Fail> {
+    let text = print_reply(alloc, &reply)?;
+    assert_eq!(rt; text.as_str(), line);
+    Ok(())
+}
+
 #[test]
 fn prints_replies(rt: HostRuntime) -> Result<(), Fail> {
     let alloc = rt.alloc();
@@ -208,12 +215,55 @@ fn prints_replies(rt: HostRuntime) -> Result<(), Fail> {
     };
     let mut bytes = [0; 24];
     bytes[22] = 10;
+    prints(&rt, alloc, Reply::NotClaimed, "notclaimed\n")?;
+    prints(&rt, alloc, Reply::Attached(None), "attached .\n")?;
+    prints(&rt, alloc, Reply::Attached(Some(100)), "attached 100\n")?;
+    prints(&rt, alloc, Reply::Endpoint(Token(bytes)), "endpoint a00\n")?;
+    prints(&rt, alloc, Reply::Stage(Stage::Told(true)), "stage told\n")?;
+    prints(&rt, alloc, Reply::Begun(id, None), "begun 12 .\n")?;
+    prints(
+        &rt,
+        alloc,
+        Reply::Begun(id, Some((node, 100))),
+        "begun 12 2 100\n",
+    )?;
+    prints(&rt, alloc, Reply::Here(Uaid(1)), "here\n")?;
+    prints(&rt, alloc, Reply::Stored, "stored\n")?;
+    prints(&rt, alloc, Reply::Names(node, 100), "names 2 100\n")?;
+    prints(&rt, alloc, Reply::End(201), "end 201\n")?;
+    prints(&rt, alloc, Reply::Due, "due\n")?;
+    prints(&rt, alloc, Reply::NotDue, "notdue\n")?;
+    prints(
+        &rt,
+        alloc,
+        Reply::Acked(AckedFrom::Stored),
+        "acked stored\n",
+    )?;
+    Ok(())
+}
+
+#[test]
+fn prints_pages(rt: HostRuntime) -> Result<(), Fail> {
+    let alloc = rt.alloc();
     let mut pages = Pages::new(alloc);
     pages.push(message(alloc, 12, "begin 3 7 a0b1 60 . normal 00ff")?)?;
     pages.push(message(alloc, 13, "begin 3 8 a0b1 60 . normal .")?)?;
+    prints(&rt, alloc, Reply::Page(pages), "page 12:ff:00ff 13:ff:.\n")
+}
+
+#[test]
+fn prints_users(rt: HostRuntime) -> Result<(), Fail> {
+    let alloc = rt.alloc();
+    let node = NodeId::new(2).ok_or(LineFault::Outside)?;
     let mut users = Users::new(alloc);
     users.push(Uaid(10), Some(node), 100)?;
     users.push(Uaid(11), None, 0)?;
+    prints(&rt, alloc, Reply::Users(users), "users a:2:100 b:.:0\n")
+}
+
+#[test]
+fn prints_counts(rt: HostRuntime) -> Result<(), Fail> {
+    let alloc = rt.alloc();
     let counts = Counts {
         users: 1,
         stored: 2,
@@ -223,58 +273,34 @@ fn prints_replies(rt: HostRuntime) -> Result<(), Fail> {
         orphans: 6,
         waiting: 7,
     };
-    for (reply, line) in [
-        (Reply::NotClaimed, "notclaimed\n"),
-        (Reply::Attached(None), "attached .\n"),
-        (Reply::Attached(Some(100)), "attached 100\n"),
-        (Reply::Endpoint(Token(bytes)), "endpoint a00\n"),
-        (Reply::Stage(Stage::Told(true)), "stage told\n"),
-        (Reply::Begun(id, None), "begun 12 .\n"),
-        (Reply::Begun(id, Some((node, 100))), "begun 12 2 100\n"),
-        (Reply::Here(Uaid(1)), "here\n"),
-        (Reply::Stored, "stored\n"),
-        (Reply::Names(node, 100), "names 2 100\n"),
-        (Reply::End(201), "end 201\n"),
-        (Reply::Due, "due\n"),
-        (Reply::NotDue, "notdue\n"),
-        (Reply::Page(pages), "page 12:ff:00ff 13:ff:.\n"),
-        (Reply::Acked(AckedFrom::Stored), "acked stored\n"),
-        (Reply::Users(users), "users a:2:100 b:.:0\n"),
-        (
-            Reply::Counts(counts),
-            "report users 1 stored 2 held 3 flights 4 unsent 5 orphans 6 waiting 7\n",
-        ),
-    ] {
-        let text = print_reply(alloc, &reply)?;
-        assert_eq!(rt; text.as_str(), line);
-    }
-    Ok(())
+    prints(
+        &rt,
+        alloc,
+        Reply::Counts(counts),
+        "report users 1 stored 2 held 3 flights 4 unsent 5 orphans 6 waiting 7\n",
+    )
 }
 
 #[test]
 fn prints_replies_of_one_word(rt: HostRuntime) -> Result<(), Fail> {
     let alloc = rt.alloc();
-    for (reply, line) in [
-        (Reply::Made, "made\n"),
-        (Reply::Taken, "taken\n"),
-        (Reply::NodeDown, "nodedown\n"),
-        (Reply::TokenTaken, "tokentaken\n"),
-        (Reply::NoSession, "nosession\n"),
-        (Reply::NoFlight, "noflight\n"),
-        (Reply::NoToken, "notoken\n"),
-        (Reply::IdsSpent, "idsspent\n"),
-        (Reply::NotHere, "nothere\n"),
-        (Reply::Unknown, "unknown\n"),
-        (Reply::Done, "done\n"),
-        (Reply::NoUser, "nouser\n"),
-        (Reply::Renewed, "renewed\n"),
-        (Reply::Kept, "kept\n"),
-        (Reply::Cleared, "cleared\n"),
-        (Reply::AllSaved, "allsaved\n"),
-        (Reply::Dropped, "dropped\n"),
-    ] {
-        assert_eq!(rt; print_reply(alloc, &reply)?.as_str(), line);
-    }
+    prints(&rt, alloc, Reply::Made, "made\n")?;
+    prints(&rt, alloc, Reply::Taken, "taken\n")?;
+    prints(&rt, alloc, Reply::NodeDown, "nodedown\n")?;
+    prints(&rt, alloc, Reply::TokenTaken, "tokentaken\n")?;
+    prints(&rt, alloc, Reply::NoSession, "nosession\n")?;
+    prints(&rt, alloc, Reply::NoFlight, "noflight\n")?;
+    prints(&rt, alloc, Reply::NoToken, "notoken\n")?;
+    prints(&rt, alloc, Reply::IdsSpent, "idsspent\n")?;
+    prints(&rt, alloc, Reply::NotHere, "nothere\n")?;
+    prints(&rt, alloc, Reply::Unknown, "unknown\n")?;
+    prints(&rt, alloc, Reply::Done, "done\n")?;
+    prints(&rt, alloc, Reply::NoUser, "nouser\n")?;
+    prints(&rt, alloc, Reply::Renewed, "renewed\n")?;
+    prints(&rt, alloc, Reply::Kept, "kept\n")?;
+    prints(&rt, alloc, Reply::Cleared, "cleared\n")?;
+    prints(&rt, alloc, Reply::AllSaved, "allsaved\n")?;
+    prints(&rt, alloc, Reply::Dropped, "dropped\n")?;
     Ok(())
 }
 
@@ -286,23 +312,44 @@ fn prints_replies_of_savers_and_nodes(rt: HostRuntime) -> Result<(), Fail> {
         shard: 0,
         number: 12,
     };
-    for (reply, line) in [
-        (Reply::Outrun(300), "outrun 300\n"),
-        (Reply::Moved(Stage::Clear(node, 100)), "moved clear\n"),
-        (Reply::Acked(AckedFrom::Direct), "acked direct\n"),
-        (Reply::Stale(300), "stale 300\n"),
-        (Reply::Claimed(None), "claimed .\n"),
-        (Reply::Claimed(Some(node)), "claimed 8\n"),
-        (Reply::Saving(500), "saving 500\n"),
-        (Reply::Saved(id), "saved 12\n"),
-        (Reply::Left(id, Reason::Channel), "left 12 channel\n"),
-        (Reply::Left(id, Reason::Zero), "left 12 zero\n"),
-        (Reply::Left(id, Reason::Expired), "left 12 expired\n"),
-        (Reply::Left(id, Reason::Replaced), "left 12 replaced\n"),
-        (Reply::Killed(2, 1), "killed 2 1\n"),
-    ] {
-        assert_eq!(rt; print_reply(alloc, &reply)?.as_str(), line);
-    }
+    prints(&rt, alloc, Reply::Outrun(300), "outrun 300\n")?;
+    prints(
+        &rt,
+        alloc,
+        Reply::Moved(Stage::Clear(node, 100)),
+        "moved clear\n",
+    )?;
+    prints(
+        &rt,
+        alloc,
+        Reply::Acked(AckedFrom::Direct),
+        "acked direct\n",
+    )?;
+    prints(&rt, alloc, Reply::Stale(300), "stale 300\n")?;
+    prints(&rt, alloc, Reply::Claimed(None), "claimed .\n")?;
+    prints(&rt, alloc, Reply::Claimed(Some(node)), "claimed 8\n")?;
+    prints(&rt, alloc, Reply::Saving(500), "saving 500\n")?;
+    prints(&rt, alloc, Reply::Saved(id), "saved 12\n")?;
+    prints(
+        &rt,
+        alloc,
+        Reply::Left(id, Reason::Channel),
+        "left 12 channel\n",
+    )?;
+    prints(&rt, alloc, Reply::Left(id, Reason::Zero), "left 12 zero\n")?;
+    prints(
+        &rt,
+        alloc,
+        Reply::Left(id, Reason::Expired),
+        "left 12 expired\n",
+    )?;
+    prints(
+        &rt,
+        alloc,
+        Reply::Left(id, Reason::Replaced),
+        "left 12 replaced\n",
+    )?;
+    prints(&rt, alloc, Reply::Killed(2, 1), "killed 2 1\n")?;
     Ok(())
 }
 
