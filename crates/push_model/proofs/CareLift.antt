@@ -57,7 +57,7 @@ rem_in : (n : ℕ) (e : ℕ × Cell) (es : List (ℕ × Cell)) → In e (remove_
 rem_in n e [] i = elim i [ ]
 rem_in n e (d ∷ es) i = rem_cons (at n d.0) d e es (remove_entry (at n) es) (rem_in n e es) i
 
-put_back : (u : Uaid) (v : Cell) (o : Option Cell) (es : List (ℕ × Cell)) (e : ℕ × Cell) (b : Bool) →
+pub put_back : (u : Uaid) (v : Cell) (o : Option Cell) (es : List (ℕ × Cell)) (e : ℕ × Cell) (b : Bool) →
     In e (if b then put_beside o u v es else remove_entry (at u.0) es) → In e es ⊎ (e.1 ≡ v)
 put_back u v o es e true i = beside_back u v o es e i
 put_back u v o es e false i = inl (rem_in u.0 e es i)

@@ -180,7 +180,7 @@ none_waiting c (Some x) h e =
     (λ r j. ap one_for (not_waiting (is_unsent x.sent r) (is_covered c x r)
     (minded c x r (h.minded x (find_in (is_routed c.user) x c.sessions e) (find_passes (is_routed c.user) x c.sessions e) r j))))
 
-counted : (w : World) → AllCared w.cells → (counts w).waiting ≡ 0
+pub counted : (w : World) → AllCared w.cells → (counts w).waiting ≡ 0
 counted w h = ap (λ n. min n (2 ^ 64 - 1)) (none_summed (λ e. waiting_in e.1) w.cells (λ e i. none_waiting e.1 (routed_session e.1) (h e i) refl))
 
 zero_test : (n : ℕ) → n ≡ 0 → (n == 0) ≡ true
@@ -196,7 +196,7 @@ pub record CaredFrom (w : World) (es : List (Entry Step Reply)) : Type 0 where
   pub cared : is_cared (world_after step w es) ≡ true
   pub reported : none_waited es ≡ true
 
-cared_from : (p : Pool) (w : World) (es : List (Entry Step Reply)) → InStep p w → AllCared w.cells → IsLegal step w es → CaredFrom w es
+pub cared_from : (p : Pool) (w : World) (es : List (Entry Step Reply)) → InStep p w → AllCared w.cells → IsLegal step w es → CaredFrom w es
 cared_from p w [] k h l = record { cared = world_cared w h; reported = refl }
 cared_from p w (e ∷ es) k h l =
     let later = cared_from (after_all (image p w e) p) (step w e.step).0 es (entry_kept p w e k l.0).in_step (made_cared p w e.step k h) l.1 in

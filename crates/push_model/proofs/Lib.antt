@@ -38,6 +38,7 @@ pub mod HandoverKept
 pub mod SaveKept
 pub mod Accounted
 pub mod Cared
+pub mod HistoryLemmas
 pub mod Reached
 pub mod Spared
 pub mod SameChannels
@@ -50,9 +51,15 @@ pub mod Framed
 pub mod Bystanders
 pub mod Going
 pub mod Owned
+pub mod Unbegun
+pub mod MailLemmas
+pub mod DeskLemmas
+pub mod ToldAgain
+pub mod Routes
 pub mod PinsPools
 pub mod PinsReasons
 pub mod PinsCells
 pub mod PinsRows
 pub mod PinsEvents
 pub mod PinsAccounts
+pub mod VersionLemmas

@@ -9,7 +9,6 @@ use Rattle.push_model.specs.declared.ids.Token.{Token}
 use Rattle.push_model.specs.declared.parts.Channel.{Channel}
 use Rattle.push_model.specs.AskValue.{AskValue}
 use Rattle.std.proofs.lemmas.Bool.Decides.{nat_tests}
-use Rattle.push_model.specs.declared.entry.Entry.{Entry}
 use Rattle.push_model.specs.declared.parts.FlightRow.{FlightRow}
 use Rattle.push_model.specs.declared.step.Actor.TheVariants.{Flight as OfFlight}
 use Rattle.push_model.specs.declared.step.Stage.{Stage}
@@ -23,21 +22,18 @@ use Rattle.push_model.specs.Cells.{Cell, is_flight, is_there, routed_place, is_t
 use Rattle.push_model.specs.Advances.{at_stage}
 use Rattle.push_model.specs.Outcomes.{Outcome}
 use Rattle.push_model.specs.FlightSteps.{flight, begin, begin_to, with_flight, heard, lost, give_up, reread, direct, store, nudge, clear}
-use Rattle.push_model.specs.Worlds.{World, start, found_or_empty, cell_at, put_beside, with_cell, settled, on_cell, on_flight, on_flight_of, has_flight_in, has_token_in}
+use Rattle.push_model.specs.Worlds.{World, found_or_empty, cell_at, put_beside, with_cell, settled, on_cell, on_flight, on_flight_of, has_flight_in, has_token_in}
 use Rattle.push_model.specs.ShardSteps.{new_message, begin_beside, begin_for, begin_on, stage_reply}
 use Rattle.push_model.specs.Steps.{made, step}
-use Rattle.push_model.specs.Histories.{IsLegal, world_after}
-use Rattle.push_model.specs.Pools.{Pool, empty_pool, after_all}
-use Rattle.push_model.specs.Images.{image}
+use Rattle.push_model.specs.Reached.{IsReached}
 use Rattle.push_model.specs.Replies.{is_refusal}
 use Rattle.push_model.specs.Frames.{first_of, flight_among, flight_at, IsLeft}
 use Rattle.push_model.specs.OwnSteps.{IsDue, IsBegun, stage_after}
 use Rattle.push_model.proofs.Members.{In, Distinct, find_in}
 use Rattle.push_model.proofs.Single.{none_found}
 use Rattle.push_model.proofs.Entries.{at, key, at_same, lookup_member}
-use Rattle.push_model.proofs.InStep.{InStep}
 use Rattle.push_model.proofs.Framed.{left_same, left_absent, with_cell_left}
-use Rattle.push_model.proofs.Accounted.{entry_kept, start_in_step}
+use Rattle.push_model.proofs.Reached.{known}
 use Rattle.push_model.proofs.Going.{Going, clear_goes, direct_goes, give_up_goes, heard_goes, lost_goes, nudge_goes, reread_goes, store_goes}
 
 -- ---- where each cell stands under its uaid, and no two under one
@@ -55,7 +51,7 @@ any_found p [] = refl
 any_found p (x ∷ xs) = any_cons (p x) x (list_any p xs) (find p xs) (any_found p xs)
 
 -- the first cell with the flight
-abbrev Holder : Op → List (ℕ × Cell) → FlightRow → Type 0
+abbrev pub Holder : Op → List (ℕ × Cell) → FlightRow → Type 0
 Holder o es f = (e : ℕ × Cell) × (find (has_flight_in o) es ≡ Some e) × In e es × (flight o e.1 ≡ Some f)
 
 holder_cons : (o : Op) (f : FlightRow) (d : ℕ × Cell) (es : List (ℕ × Cell)) (g : Option FlightRow) → flight o d.1 ≡ g →
@@ -68,7 +64,7 @@ holder_cons o f d es (Some g) e h ih =
     let yes : has_flight_in o d ≡ true = any_found (is_flight o) d.1.flights ∙ ap is_some e in
     (d, rw yes refl, inl refl, e ∙ h)
 
-holder : (o : Op) (f : FlightRow) (es : List (ℕ × Cell)) → flight_among o es ≡ Some f → Holder o es f
+pub holder : (o : Op) (f : FlightRow) (es : List (ℕ × Cell)) → flight_among o es ≡ Some f → Holder o es f
 holder o f [] h = cc
 holder o f (d ∷ es) h = holder_cons o f d es (flight o d.1) refl h (holder o f es)
 
@@ -96,7 +92,7 @@ set_found o v g n e (d ∷ es) t h k =
     set_cons o v g n e d (at n d.0) (has_flight_in o d) es (set_value (at n) es v) refl refl t h k (λ q. set_found o v g n e es t q k)
 
 -- each cell is found under its uaid
-own_lookup : (w : World) (e : ℕ × Cell) → Places w.cells → In e w.cells → lookup (at e.1.uaid.0) w.cells ≡ Some e.1
+pub own_lookup : (w : World) (e : ℕ × Cell) → Places w.cells → In e w.cells → lookup (at e.1.uaid.0) w.cells ≡ Some e.1
 own_lookup w e p i = subst (λ n. lookup (at n) w.cells ≡ Some e.1) (p.keys e i) (lookup_member e w.cells p.distinct i)
 
 -- the flight goes on in the world
@@ -257,15 +253,10 @@ pub begun : (w : World) (o : Op) (t : Token) (a : AskValue) → Places w.cells �
     IsBegun o t a (step w (Begin o t a)).1 (flight_at o (step w (Begin o t a)).0)
 begun w o t a p = begun_beside o t a w (find (has_flight_in o) w.cells) p refl
 
--- ---- each world of a legal history is placed so
+-- ---- each reached world is placed so
 
-world_places : (p : Pool) (w : World) (es : List (Entry Step Reply)) → InStep p w → IsLegal step w es → Places (world_after step w es).cells
-world_places p w [] h l = record { keys = h.sound.keys; distinct = h.sound.distinct }
-world_places p w (e ∷ es) h l = world_places (after_all (image p w e) p) (step w e.step).0 es (entry_kept p w e h l.0).in_step l.1
-
-pub places : (shard next : ℕ) (es : List (Entry Step Reply)) → IsLegal step (start shard next) es →
-    Places (world_after step (start shard next) es).cells
-places shard next es l = world_places empty_pool (start shard next) es (start_in_step shard next) l
+pub places : (w : World) → IsReached w → Places w.cells
+places w r = let s = (known w r).in_step.sound in record { keys = s.keys; distinct = s.distinct }
 
 pub not_refused : (w : World) (o : Op) (f : FlightRow) (x : Step) → Places w.cells → flight_at o w ≡ Some f → IsDue o x f.stage →
     is_refusal (step w x).1 ≡ false
@@ -285,7 +276,7 @@ first_none_left : (f g : Option FlightRow) → first_of f g ≡ None → f ≡ N
 first_none_left None g h = refl
 first_none_left (Some f) g h = cc
 
-no_entry : (o : Op) (es : List (ℕ × Cell)) → flight_among o es ≡ None → find (has_flight_in o) es ≡ None
+pub no_entry : (o : Op) (es : List (ℕ × Cell)) → flight_among o es ≡ None → find (has_flight_in o) es ≡ None
 no_entry o [] h = refl
 no_entry o (d ∷ es) h =
     let no : has_flight_in o d ≡ false = any_found (is_flight o) d.1.flights ∙ ap is_some (first_none_left (flight o d.1) (flight_among o es) h) in

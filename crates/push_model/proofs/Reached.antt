@@ -11,14 +11,15 @@ use Rattle.push_model.specs.Steps.{step}
 use Rattle.push_model.specs.Histories.{IsLegal, world_after, entry}
 use Rattle.push_model.specs.Pools.{Pool, empty_pool, after_all}
 use Rattle.push_model.specs.Images.{image}
-use Rattle.push_model.specs.Caring.{is_cared}
+use Rattle.push_model.specs.Caring.{is_cared, none_waited}
 use Rattle.push_model.specs.Reached.{IsReached}
 use Rattle.push_model.proofs.Members.{In}
+use Rattle.push_model.proofs.HistoryLemmas.{after_last, legal_last}
 use Rattle.push_model.proofs.InStep.{InStep}
 use Rattle.push_model.proofs.Entries.{at, lookup_member}
 use Rattle.push_model.proofs.CareLift.{AllCared}
 use Rattle.push_model.proofs.Accounted.{entry_kept, start_in_step}
-use Rattle.push_model.proofs.Cared.{made_cared, world_cared}
+use Rattle.push_model.proofs.Cared.{made_cared, world_cared, cared_from}
 
 -- a pool in step with the world, and care for it
 pub record Known (w : World) : Type 0 where
@@ -49,15 +50,6 @@ reached_there w e r i =
 
 -- ---- one step more
 
-legal_more : (w : World) (es : List (Entry Step Reply)) (x : Step) → IsLegal step w es →
-    IsLegal step w (es ++ entry 0 x (step (world_after step w es) x).1 ∷ [])
-legal_more w [] x l = (refl, tt)
-legal_more w (e ∷ es) x l = (l.0, legal_more (step w e.step).0 es x l.1)
-
-after_more : (w : World) (es : List (Entry Step Reply)) (x : Step) (r : Reply) → world_after step w (es ++ entry 0 x r ∷ []) ≡ (step (world_after step w es) x).0
-after_more w [] x r = refl
-after_more w (e ∷ es) x r = after_more (step w e.step).0 es x r
-
 pub reached_start : (shard next : ℕ) → IsReached (start shard next)
 reached_start shard next = record { shard = shard; next = next; entries = []; legal = tt; is = refl }
 
@@ -69,6 +61,15 @@ reached_more w x r =
       shard = r.shard;
       next = r.next;
       entries = r.entries ++ entry 0 x (step v x).1 ∷ [];
-      legal = legal_more (start r.shard r.next) r.entries x r.legal;
-      is = after_more (start r.shard r.next) r.entries x (step v x).1;
+      legal = legal_last step (start r.shard r.next) r.entries (entry 0 x (step v x).1) r.legal refl;
+      is = after_last step (start r.shard r.next) r.entries (entry 0 x (step v x).1);
     })
+
+-- ---- and any number of steps
+
+pub reached_after : (w : World) (es : List (Entry Step Reply)) → IsReached w → IsLegal step w es → IsReached (world_after step w es)
+reached_after w [] r l = r
+reached_after w (e ∷ es) r l = reached_after (step w e.step).0 es (reached_more w e.step r) l.1
+
+pub reached_reported : (w : World) (es : List (Entry Step Reply)) → IsReached w → IsLegal step w es → none_waited es ≡ true
+reached_reported w es r l = let k = known w r in (cared_from k.pool w es k.in_step k.cared l).reported

@@ -67,6 +67,11 @@ is_own o (Lost actor) = is_of_actor o actor
 is_own o (Clear actor) = is_of_actor o actor
 is_own o _ = false
 
+-- the step that makes the flight o
+abbrev pub is_begin_of : Op → Step → Bool
+is_begin_of o (Begin k t a) = is_same_op k o
+is_begin_of o _ = false
+
 -- ---- flights
 
 -- all but the stage is as it was, and the stage is as it was or has turned
@@ -92,3 +97,8 @@ NoneBy p (e ∷ es) = (e.by ≢ p) × NoneBy p es
 abbrev pub NoneOf : {R : Type 0} → Op → List (Entry Step R) → Type 0
 NoneOf o [] = Unit {0}
 NoneOf o (e ∷ es) = (is_own o e.step ≡ false) × NoneOf o es
+
+-- no entry makes the flight o
+abbrev pub NoBegin : {R : Type 0} → Op → List (Entry Step R) → Type 0
+NoBegin o [] = Unit {0}
+NoBegin o (e ∷ es) = (is_begin_of o e.step ≡ false) × NoBegin o es

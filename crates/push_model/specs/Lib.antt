@@ -29,9 +29,14 @@ pub mod Images
 pub mod Accounting
 pub mod Caring
 pub mod Reached
+pub mod MailWords
+pub mod DeskViews
+pub mod Routes
 pub mod Kills
 pub mod Narrow
 pub mod Replies
 pub mod Frames
 pub mod OwnSteps
 pub mod Pins
+pub mod DeskPins
+pub mod Versions

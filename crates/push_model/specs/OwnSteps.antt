@@ -65,6 +65,12 @@ IsDue o (Lost (OfFlight k)) s = (k ≡ o) × (may_lose s ≡ true)
 IsDue o (Clear (OfFlight k)) s = (k ≡ o) × (is_clear s ≡ true)
 IsDue o _ s = ⊥
 
+-- a Direct or a Nudge of that flight, which has been told already, or is at no such stage
+abbrev pub IsToldAgain : Op → Step → Stage → Type 0
+IsToldAgain o (Direct k) s = (k ≡ o) × (is_direct s ≡ false)
+IsToldAgain o (Nudge (OfFlight k)) s = (k ≡ o) × (is_nudge s ≡ false)
+IsToldAgain o _ s = ⊥
+
 -- the stage after a reply, if the flight goes on
 abbrev pub told_stage : Bool → Stage → Option Stage
 told_stage here (AtDirect n a) = Some (Told here)

@@ -7,3 +7,9 @@ pub mod Sources
 pub mod Sinks
 pub mod Turns
 pub mod Adapters
+pub mod Chats
+pub mod ChatForms
+pub mod Draws
+pub mod WireValue
+pub mod Wires
+pub mod Moments

@@ -6,10 +6,25 @@
 #![tactic(auto)]
 
 mod calls;
+mod chat;
+mod clock;
+mod draw;
+mod list_chat;
+mod list_wire;
+pub mod pins;
 mod sink;
 mod source;
 mod std_io;
+mod sure_chat;
+mod wire;
 
+pub use chat::{Chat, Heard, Item, Sent};
+pub use clock::{Clock, SetClock};
+pub use draw::{Draw, ListDraw, fill};
+pub use list_chat::ListChat;
+pub use list_wire::ListWire;
 pub use sink::{ListSink, Put, Sink, SureSink};
 pub use source::{Got, ListSource, Source, SureSource};
 pub use std_io::{Reading, Writing};
+pub use sure_chat::SureChat;
+pub use wire::Wire;
