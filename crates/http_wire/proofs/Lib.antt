@@ -1,0 +1,9 @@
+mod HeadLemmas
+mod Beginning
+mod Chunking
+mod Putting
+mod OneRequest
+mod Exclusive
+mod Blanks
+mod Lasting
+mod Undecided
