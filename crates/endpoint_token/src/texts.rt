@@ -4,9 +4,11 @@ ghost use Rattle.std.specs.Bool.{OnTrue};
 ghost use Rattle.push_model.specs.declared.ids.Token.{Token as TokenValue};
 ghost use Rattle.endpoint_token.specs.TokenTexts.{IsToken, is_token_text, spelled};
 
+use base64::display::Base64Display;
 use base64::engine::general_purpose::URL_SAFE_NO_PAD;
 use push_model::{NoMemory, Text, Token};
 use std::alloc::Global;
+use std::fmt;
 
 // The characters of 24 bytes, which are a token.
 #[tactic(auto, unfolding(crate::specs::TokenTexts::spelled))]
@@ -56,5 +58,22 @@ pub fn read_token(text: &[u8]) -> Option<Token>
         Some(Token(bytes))
     } else {
         None
+    }
+}
+
+/// A token as `{}` prints it: its 32 characters. It takes no memory.
+#[derive(Clone, Copy)]
+pub struct TokenText<'t>(pub &'t Token);
+
+impl<'t> fmt::Display for TokenText<'t> {
+    ghost use Rattle.std.specs.Prelude.{Some};
+    ghost use Rattle.endpoint_token.specs.TokenTexts.{spelled};
+
+    ghost output = { λ w. Some (spelled w.0.now) };
+
+    #[tactic(auto, unfolding(crate::specs::TokenTexts::spelled))]
+    fn fmt<W: fmt::Write>(&self, f: &mut fmt::Formatter<W>) -> fmt::Result {
+        let shown = Base64Display::new(&self.0.0, &URL_SAFE_NO_PAD);
+        write!(f, "{shown}")
     }
 }

@@ -1,0 +1,4 @@
+pub mod Nones
+pub mod UpdateLemmas
+pub mod Bare
+pub mod Printable
