@@ -75,11 +75,17 @@ dropped_more q rows i r ds es lt e h k =
 
 -- ---- rows that are changed, and whose messages stay
 
--- the changed rows, put back where they were
+-- as many rows, put back where the others were
+pub put_again : (n : ℕ) (xs ys : List Row) → length ys ≡ length xs → length xs ≡ n → take n (ys ++ drop (length ys) xs) ≡ ys
+put_again n xs ys e h = rw (drop_all (length ys) xs (omega arith), append-nil ys) (take_all n ys (omega arith))
+
+-- the changed rows
 pub put_back : (f : Row → Row) (n : ℕ) (xs ys : List Row) → ys ≡ map f xs → length xs ≡ n → take n (ys ++ drop (length ys) xs) ≡ map f xs
-put_back f n xs ys e h =
-    let same : length (map f xs) ≡ length xs = length-map xs f in
-    rw (e, drop_all (length (map f xs)) xs (omega arith), append-nil (map f xs)) (take_all n (map f xs) (omega arith))
+put_back f n xs ys e h = put_again n xs ys (ap length e ∙ length-map xs f) h ∙ e
+
+-- rows of the same messages are as many
+pub length-same : (xs ys : List Row) → map (λ r. r.message) ys ≡ map (λ r. r.message) xs → length ys ≡ length xs
+length-same xs ys e = sym (length-map ys (λ r. r.message)) ∙ ap length e ∙ length-map xs (λ r. r.message)
 
 pub dues_of-map : (f : Row → Row) (rows : List Row) → ((r : Row) → (f r).message ≡ r.message) → dues_of (map f rows) ≡ dues_of rows
 dues_of-map f [] h = refl
@@ -88,12 +94,15 @@ dues_of-map f (r ∷ rows) h = ap (λ m. with_message m (dues_of (map f rows))) 
 pub dues_of-unmarked : (rows : List Row) → dues_of (map unmarked_row rows) ≡ dues_of rows
 dues_of-unmarked rows = dues_of-map unmarked_row rows (λ r. refl)
 
-mark_cases : (b : Bool) (r : Row) → (if b then record r { orphan = true } else r).message ≡ r.message
-mark_cases true r = refl
-mark_cases false r = refl
-
-pub dues_of-marked : (i : MsgId) (rows : List Row) → dues_of (map (marked_row i) rows) ≡ dues_of rows
-dues_of-marked i rows = dues_of-map (marked_row i) rows (λ r. mark_cases (is_row i r) r)
+-- rows of the same messages have the same entries
+pub dues_of-same : (xs ys : List Row) → map (λ r. r.message) ys ≡ map (λ r. r.message) xs → dues_of ys ≡ dues_of xs
+dues_of-same [] [] e = refl
+dues_of-same [] (y ∷ ys) e = cc
+dues_of-same (x ∷ xs) [] e = cc
+dues_of-same (x ∷ xs) (y ∷ ys) e =
+    let one : y.message ≡ x.message = cc in
+    let others : map (λ r. r.message) ys ≡ map (λ r. r.message) xs = cc in
+    ap (λ m. with_message m (dues_of ys)) one ∙ ap (with_message x.message) (dues_of-same xs ys others)
 
 -- ---- when rows expire
 

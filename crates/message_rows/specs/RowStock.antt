@@ -1,5 +1,5 @@
 -- Rows, as contracts see them, and what is done to each of them.
-use Rattle.std.specs.Prelude.{◌≡◌, ℕ, ◌<◌, ◌+◌, ◌==◌, ◌&&◌, not, true, false, Bool, List, if◌then◌else◌}
+use Rattle.std.specs.Prelude.{◌≡◌, ℕ, ◌<◌, ◌+◌, ◌==◌, ◌&&◌, ◌||◌, not, true, false, Bool, List}
 use Rattle.std.specs.List.{list_any}
 use Rattle.push_model.specs.declared.ids.MsgId.{MsgId}
 use Rattle.push_model.specs.declared.parts.Row.{Row}
@@ -14,9 +14,13 @@ pub record RowStock : Type 0 where
 abbrev pub is_orphan : Row → Bool
 is_orphan r = r.orphan
 
--- with the orphan mark, where it is that message's row
+-- with the orphan mark, where it passes the test
+abbrev pub marked_where : (Row → Bool) → Row → Row
+marked_where p r = record r { orphan = r.orphan || p r }
+
+-- where it is that message's row
 abbrev pub marked_row : MsgId → Row → Row
-marked_row i r = if is_row i r then record r { orphan = true } else r
+marked_row i r = marked_where (is_row i) r
 
 -- ---- when rows expire
 

@@ -1,27 +1,22 @@
 //! Orphan marks of rows.
-ghost use Rattle.std.specs.Prelude.{◌≡◌, map};
+ghost use Rattle.std.specs.Prelude.{◌≡◌, Bool, map};
+ghost use Rattle.std.specs.Fn.{FnReturnsAt};
+ghost use Rattle.push_model.specs.declared.parts.Row.{Row};
 ghost use Rattle.push_model.specs.Cells.{unmarked_row};
-ghost use Rattle.message_rows.specs.RowStock.{marked_row};
+ghost use Rattle.message_rows.specs.RowStock.{marked_where};
 
-use crate::places::is_row;
-use push_model::{MsgId, Row};
+use push_model::Row;
 
-// the row gets the mark, where it is that message's
-fn mark_row(row: &mut Row, id: MsgId)
-    ensures { row.new ≡ marked_row id row.old }
-{
-    if is_row(row, id) {
-        row.orphan = true;
-    }
-}
-
-/// Each row of that message gets the mark.
+/// Each row that passes the test gets the mark.
 #[tactic(auto, using(crate::proofs::RowLemmas::marked_more))]
-pub(crate) fn mark_rows(rows: &mut [Row], id: MsgId)
-    ensures { rows.new ≡ map (marked_row id) rows.old }
+pub(crate) fn mark_where<F: Fn(&Row) -> bool>(rows: &mut [Row], test: F)
+    requires { F.IsAlwaysCallable test }
+    ensures rows { (p : Row → Bool) → ((r : Row) (b : Bool) → FnReturnsAt F.Fn test r b → b ≡ p r) → rows.new ≡ map (marked_where p) rows.old }
+    ensures messages { map (λ r. r.message) rows.new ≡ map (λ r. r.message) rows.old }
 {
     for row in rows.iter_mut() {
-        mark_row(row, id);
+        let passes = test(row);
+        row.orphan = row.orphan | passes;
     }
 }
 

@@ -1,21 +1,23 @@
 //! The stored rows of one user.
-ghost use Rattle.std.specs.Prelude.{◌≡◌, ℕ, ◌+◌, ◌<◌, ◌≤◌, ◌++◌, ◌∷◌, [], length, remove, filter, map, count_by, not, true, false, IfOk, IfNone, IfSome, OnOk, OnErr};
+ghost use Rattle.std.specs.Prelude.{◌≡◌, ℕ, Bool, ◌+◌, ◌<◌, ◌≤◌, ◌++◌, ◌∷◌, [], length, remove, filter, map, count_by, not, true, false, IfOk, IfNone, IfSome, OnOk, OnErr};
+ghost use Rattle.std.specs.Fn.{FnReturnsAt};
 ghost use Rattle.std.specs.List.{list_any};
+ghost use Rattle.push_model.specs.declared.parts.Row.{Row};
 ghost use Rattle.push_model.specs.Keyed.{without_first};
 ghost use Rattle.push_model.specs.Messages.{is_expired};
 ghost use Rattle.push_model.specs.Rows.{is_row, row_page, remains, verdict, new_row, stored_rows};
 ghost use Rattle.push_model.specs.Cells.{unmarked_row};
 ghost use Rattle.push_model.specs.SessionSteps.{is_other_row};
-ghost use Rattle.message_rows.specs.RowStock.{is_orphan, marked_row, NeverExpire, IsSoonest};
+ghost use Rattle.message_rows.specs.RowStock.{is_orphan, marked_row, marked_where, NeverExpire, IsSoonest};
 ghost use Rattle.message_rows.specs.Storing.{store_answer, rows_with_stored, put_answer, rows_with_put};
 ghost use Rattle.message_rows.specs.Going.{stays};
 
 use crate::answers::{PutAnswer, StoreAnswer};
 use crate::going::{Going, stays};
-use crate::marks::{mark_rows, unmark_rows};
+use crate::marks::{mark_where, unmark_rows};
 use crate::moments::{drop_entries, put_entry, remove_entry};
 use crate::pages::{remains, row_page};
-use crate::places::{row_place, topic_place};
+use crate::places::{is_row, row_place, topic_place};
 use crate::verdicts::verdict_of;
 use clock_expiry::Due;
 use push_model::{
@@ -204,7 +206,18 @@ impl Rows {
         ensures rows { self.new.rows ≡ map (marked_row id) self.old.rows }
         ensures kept { self.old.spare ≤ self.new.spare }
     {
-        mark_rows(&mut self.rows, id);
+        self.mark_where(|row| is_row(row, id));
+    }
+
+    /// Each row that passes the test gets the orphan mark, in one walk: for each test `p` that the closure decides, these
+    /// are the rows that pass `p`.
+    pub fn mark_where<F: Fn(&Row) -> bool>(&mut self, test: F)
+        requires { F.IsAlwaysCallable test }
+        ensures rows { (p : Row → Bool) → ((r : Row) (b : Bool) → FnReturnsAt F.Fn test r b → b ≡ p r) → self.new.rows ≡ map (marked_where p) self.old.rows }
+        ensures messages { map (λ r. r.message) self.new.rows ≡ map (λ r. r.message) self.old.rows }
+        ensures kept { self.old.spare ≤ self.new.spare }
+    {
+        mark_where(&mut self.rows, test);
     }
 
     /// No row has the orphan mark any more.

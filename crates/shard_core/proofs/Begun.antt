@@ -1,22 +1,27 @@
 -- A message that is begun leaves its user there; and where a token's cell is.
-use Rattle.std.proofs.Common.{◌≡◌, ℕ, Bool, true, false, refl, sym, subst}
+use Rattle.std.proofs.Common.{◌≡◌, ℕ, Bool, true, false, cond, List, refl, ap, sym, subst, ◌∙◌}
 use Rattle.std.specs.Prelude.{Option, Some, None, ◌==◌, ◌||◌, is_some, find, if◌then◌else◌}
 use Rattle.std.specs.List.{list_any}
 use Rattle.std.specs.Option.{option_map}
-use Rattle.std.specs.Map.{lookup}
+use Rattle.std.specs.Map.{lookup, set_value}
 use Rattle.std.specs.Ordering.{nat_cmp}
 use Rattle.std.specs.BTreeMap.{is_at}
 use Rattle.push_model.specs.declared.ids.Op.{Op}
 use Rattle.push_model.specs.declared.ids.Token.{Token}
 use Rattle.push_model.specs.MessageValue.{MessageValue}
 use Rattle.push_model.specs.Cells.{Cell, User, is_there, is_token, channels_of, routed_place}
-use Rattle.push_model.specs.Outcomes.{Outcome}
+use Rattle.push_model.specs.declared.ids.Uaid.{Uaid}
+use Rattle.push_model.specs.declared.reply.Reply.{Reply}
+use Rattle.push_model.specs.Outcomes.{Outcome, outcome}
+use Rattle.push_model.specs.Steps.{OnUser}
 use Rattle.push_model.specs.FlightSteps.{begin, begin_to}
 use Rattle.push_model.specs.Worlds.{World, has_token_in}
 use Rattle.push_model.specs.Reached.{IsReached}
 use Rattle.push_model.proofs.Members.{In, find_in, find_passes}
 use Rattle.push_model.proofs.Reached.{reached_there}
+use Rattle.shard_core.specs.Made.{StepsTo}
 use Rattle.shard_core.specs.Shards.{HasUser}
+use Rattle.shard_core.proofs.Puts.{cell_found, puts_set}
 
 either : (a b : Bool) → a ≡ true → (a || b) ≡ true
 either true b h = refl
@@ -50,3 +55,15 @@ found_user w t c (Some e) r f h =
 pub token_there : (w : World) (t : Token) (c : Cell) → IsReached w → Some c ≡ option_map (λ e. e.1) (find (has_token_in t) w.cells) →
     HasUser (lookup (is_at (nat_cmp c.uaid.0)) w.cells)
 token_there w t c r h = found_user w t c (find (has_token_in t) w.cells) r refl h
+
+-- the cell of a user who is there, where a message is begun
+pub begun_steps : (u : Uaid) (o : Op) (t : Token) (m : MessageValue) (c v : Cell) (r : Reply) (es fs : List (ℕ × Cell)) →
+    lookup (is_at (nat_cmp u.0)) es ≡ Some c → is_some c.user ≡ true → begin o t m c ≡ outcome v r → fs ≡ set_value (is_at (nat_cmp u.0)) es v →
+    ((q : ℕ) → lookup (is_at (nat_cmp q)) fs ≡ cond (is_at (nat_cmp u.0) q) (Some v) (lookup (is_at (nat_cmp q)) es)) →
+    StepsTo (OnUser u (begin o t m)) u es fs r
+begun_steps u o t m c v r es fs found user d s h =
+    record {
+      cell = v;
+      does = ap (begin o t m) (cell_found es u c found) ∙ d;
+      puts = puts_set u c v es fs found (ap (λ (q : Outcome). is_there q.cell) (sym d) ∙ begun_there o t m c user) s h;
+    }

@@ -5,3 +5,4 @@ mod Puts
 mod Begun
 mod Steps
 mod Lists
+mod DueCells

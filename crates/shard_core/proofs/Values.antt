@@ -1,6 +1,6 @@
 -- Searches and sums over the values of a map's entries.
 use Rattle.std.proofs.Common.{◌≡◌, ℕ, ◌+◌, Bool, true, false, cond, List, [], ◌∷◌, refl, ap, ◌∙◌}
-use Rattle.std.specs.Prelude.{Option, Some, Result, Ok, Err, OnErr, find, fold, sum_by, count_by, ◌||◌}
+use Rattle.std.specs.Prelude.{Option, Some, Result, Ok, Err, IfOk, OnErr, find, fold, sum_by, count_by, ◌||◌}
 use Rattle.std.specs.Option.{option_map}
 use Rattle.std.specs.List.{list_any}
 use Rattle.std.specs.Map.{set_value, remove_entry, values_of}
@@ -46,3 +46,8 @@ on_err (Err e) p = p
 pub err_map : {T E P Q : Type 0} (r : Result T E) → (P → Q) → OnErr r P → OnErr r Q
 err_map (Ok x) f p = tt
 err_map (Err e) f p = f p
+
+-- and what holds at an `Ok`
+pub ok_map : {T E : Type 0} {P Q : T → Type 0} (r : Result T E) → ((x : T) → P x → Q x) → IfOk r P → IfOk r Q
+ok_map (Ok x) f p = f x p
+ok_map (Err e) f p = tt

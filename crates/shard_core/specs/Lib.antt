@@ -1,4 +1,5 @@
 pub mod Counting
 pub mod Made
+pub mod Dues
 pub mod Shards
 pub mod Listing

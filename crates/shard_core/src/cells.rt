@@ -1,10 +1,9 @@
 //! Searches and counts over the cells of a shard.
-ghost use Rattle.std.specs.Prelude.{◌≡◌, ◌++◌, find, max, sum_by, IfOk, OnOk};
+ghost use Rattle.std.specs.Prelude.{◌≡◌, ◌++◌, find, sum_by, IfOk, OnOk};
 ghost use Rattle.std.specs.Option.{option_copied};
 ghost use Rattle.std.specs.List.{list_any};
 ghost use Rattle.std.specs.Map.{values_of};
 ghost use Rattle.push_model.specs.Cells.{is_token, is_flight, channels_of};
-ghost use Rattle.push_model.specs.ClockSteps.{ticked};
 ghost use Rattle.push_model.specs.NodeSteps.{killed, held_on, orphaned_on};
 ghost use Rattle.push_model.specs.ShardSteps.{is_orphaned, is_idle, route_of};
 ghost use Rattle.push_model.specs.Tallies.{capped};
@@ -55,23 +54,6 @@ pub fn count_cells(cells: &BTreeMap<u128, UserCell>) -> Counts
         count_cell(&mut counts, cell);
     }
     counts
-}
-
-/// The later of the two moments.
-pub fn later(a: Moment, b: Moment) -> Moment
-    ensures { result ≡ max a b }
-{
-    if a.seconds() < b.seconds() { b } else { a }
-}
-
-/// Takes the rows that are expired at that moment out of all the cells.
-pub fn tick_cells(cells: &mut BTreeMap<u128, UserCell>, now: Moment)
-    ensures { cells.new.entries ≡ each (ticked now) cells.old.entries }
-{
-    cells.retain(|_, cell| {
-        cell.tick(now);
-        true
-    });
 }
 
 /// Takes what is on the node out of all the cells.

@@ -2,6 +2,8 @@
 #![tactic(auto)]
 
 mod cells;
+mod dues;
+mod places;
 mod shard;
 mod state;
 

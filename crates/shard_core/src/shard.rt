@@ -4,6 +4,7 @@ ghost use Rattle.push_model.specs.Kinds.{takes_memory, costs_memory};
 ghost use Rattle.push_model.specs.Worlds.{start};
 ghost use Rattle.push_model.specs.Steps.{step};
 ghost use Rattle.push_model.specs.Caring.{is_cared};
+ghost use Rattle.push_model.specs.ShardSteps.{counts};
 
 use crate::state::State;
 use push_model::{NoMemory, Reply, Step, Tally};
@@ -61,5 +62,12 @@ impl Shard {
         ensures { result ≡ self.now.tally }
     {
         self.state.tally()
+    }
+
+    /// How many stored rows a routed session wasn't sent, and nothing covers; from 2^64 - 1 on it says that.
+    pub fn waiting(&self) -> u64
+        ensures { result ≡ (counts self.now).waiting }
+    {
+        self.state.counts().waiting
     }
 }

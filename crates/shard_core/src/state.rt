@@ -17,9 +17,11 @@ ghost use Rattle.shard_core.specs.Shards.{IsNoBegin, HasUser};
 ghost use Rattle.shard_core.specs.Made.{DoesAt, CostsAt, DoesOnFlight, CostsOnFlight};
 
 use crate::cells::{
-    any_has_token, count_cells, find_flight, find_token, held_on, idle_users, kill_cells, later,
-    orphaned_on, orphaned_users, tick_cells,
+    any_has_token, count_cells, find_flight, find_token, held_on, idle_users, kill_cells,
+    orphaned_on, orphaned_users,
 };
+use crate::dues::{NEVER, earlier, later, soonest_at, soonest_of, tick_cells};
+use crate::places::{begin_at, step_at};
 use push_model::{
     Actor, Ask, ChannelId, Counts, Message, Moment, MsgId, NoMemory, NodeId, Op, Reply, SessionId,
     Step, Tally, Token, Uaid,
@@ -37,18 +39,21 @@ pub(crate) struct State {
     next: u64,
     down: [bool; 8],
     cells: BTreeMap<u128, UserCell>,
+    // at no moment in seconds below it is a row due
+    soonest: u64,
     tally: Tally,
 }
 
 impl Model for State {
     ghost use Rattle.std.specs.Prelude.{◌≤◌, ◌^◌};
     ghost use Rattle.push_model.specs.Worlds.{World};
+    ghost use Rattle.shard_core.specs.Dues.{NoneDueIn};
 
     ghost Value = { World };
 
     ghost view = { λ s. record { shard = s.number; clock = s.clock; next = s.next; down = s.down; cells = s.cells.entries; tally = s.tally } };
 
-    ghost invariant = { λ s. s.next ≤ 2 ^ 63 };
+    ghost invariant = { λ s. (s.next ≤ 2 ^ 63) × NoneDueIn s.soonest s.cells.entries };
 }
 
 /// Past the last message number.
@@ -66,6 +71,7 @@ impl State {
             next,
             down: [false; 8],
             cells: BTreeMap::new(alloc),
+            soonest: NEVER,
             tally: Tally::new(),
         }
     }
@@ -154,33 +160,8 @@ impl State {
         ensures ok { IfOk result (λ reply. DoesAt (action self.old.clock asked.now) uaid self.old self.new reply) }
         ensures err { OnErr result ((self.new ≡ self.old) × (takes_memory asked.now ≡ true) × CostsAt (action self.old.clock asked.now) uaid self.old) }
     {
-        let clock = self.clock;
-        let Some(cell) = self.cells.get_mut(&uaid.0) else {
-            return self.on_new_cell(alloc, uaid, asked);
-        };
-        let reply = cell.step(alloc, clock, asked)?;
-        if cell.is_there() {
-            return Ok(reply);
-        }
-        self.cells.remove(&uaid.0);
-        Ok(reply)
-    }
-
-    // the same where there is no such cell
-    fn on_new_cell(&mut self, alloc: Global, uaid: Uaid, asked: &Step) -> Result<Reply, NoMemory>
-        requires kind { IsOnCell (action self.old.clock asked.now) }
-        requires absent { lookup (is_at (nat_cmp uaid.0)) self.old.cells ≡ None }
-        ensures ok { IfOk result (λ reply. DoesAt (action self.old.clock asked.now) uaid self.old self.new reply) }
-        ensures err { OnErr result ((self.new ≡ self.old) × (takes_memory asked.now ≡ true) × CostsAt (action self.old.clock asked.now) uaid self.old) }
-    {
-        let mut cell = UserCell::new(alloc, uaid);
-        let reply = cell.step(alloc, self.clock, asked)?;
-        if !cell.is_there() {
-            return Ok(reply);
-        }
-        if self.cells.insert(uaid.0, cell).is_err() {
-            return Err(NoMemory);
-        }
+        let reply = step_at(&mut self.cells, alloc, self.clock, uaid, asked)?;
+        self.soonest = earlier(self.soonest, soonest_at(&self.cells, uaid));
         Ok(reply)
     }
 
@@ -302,21 +283,23 @@ impl State {
             ask,
             accepted: self.clock,
         };
-        let Some(cell) = self.cells.get_mut(&uaid.0) else {
-            unreachable!();
-        };
-        let reply = cell.begin(alloc, op, token, message)?;
+        let reply = begin_at(&mut self.cells, alloc, uaid, op, token, message)?;
         self.next += 1;
         Ok(reply)
     }
 
-    // the clock never goes back; rows that are due go
+    // the clock never goes back; rows that are due go, and where none is, no cell is looked at
     fn tick(&mut self, moment: Moment) -> Reply
+        requires { IsReached self.old }
         ensures { tick moment self.old ≡ (self.new, result) }
     {
         let now = later(self.clock, moment);
         self.clock = now;
+        if now.seconds() < self.soonest {
+            return Reply::Done;
+        }
         tick_cells(&mut self.cells, now);
+        self.soonest = soonest_of(&self.cells);
         Reply::Done
     }
 
@@ -350,7 +333,8 @@ impl State {
         Ok(Reply::Users(idle_users(alloc, &self.cells, self.clock)?))
     }
 
-    fn counts(&self) -> Counts
+    /// The numbers of a report.
+    pub(crate) fn counts(&self) -> Counts
         ensures { result ≡ counts self.now }
     {
         count_cells(&self.cells)

@@ -1,7 +1,6 @@
 mod Held
 mod HeldActors
 mod NudgeLemmas
-mod Orphans
 mod PartsLemmas
 mod Room
 mod SaveLemmas

@@ -97,7 +97,7 @@ impl UserCell {
     }
 
     /// The user's channels, none where there is no user.
-    pub(crate) fn user_channels(&self) -> &[Channel]
+    pub fn user_channels(&self) -> &[Channel]
         ensures { result.now ≡ channels_of self.now.user }
     {
         self.channels.as_slice()

@@ -93,12 +93,7 @@ fn mark_left(rows: &mut Rows, savers: &SaverRows, node: NodeId)
     ensures rows { rows.new.rows ≡ map (orphaned node savers.now.savers) rows.old.rows }
     ensures kept { rows.old.spare ≤ rows.new.spare }
 {
-    for place in 0..rows.len() {
-        let id = rows.rows()[place].message.message().id;
-        if savers.saved_on(node, id) {
-            rows.mark(id);
-        }
-    }
+    rows.mark_where(|row| savers.saved_on(node, row.message.message().id));
 }
 
 fn end_claims(claims: &mut Vec<Claim>, node: NodeId)

@@ -1,10 +1,10 @@
 //! What the steps of a session do: how it is attached, its channels, its messages, and how it is routed again.
-ghost use Rattle.std.specs.Prelude.{◌≡◌, ◌++◌, ◌∷◌, [], IfOk, IfErr, IfSome, IfNone, OnOk, OnErr, find, false, true, position};
+ghost use Rattle.std.specs.Prelude.{◌≡◌, ◌++◌, ◌∷◌, [], IfOk, IfErr, IfSome, IfNone, OnOk, OnErr, find, false, is_some, true, position};
 ghost use Rattle.push_model.specs.Keyed.{IsPlace};
 ghost use Rattle.push_model.specs.Sessions.{is_attached_at};
 ghost use Rattle.push_model.specs.Cells.{is_claim, unmarked_for};
 ghost use Rattle.push_model.specs.Outcomes.{outcome};
-ghost use Rattle.push_model.specs.SessionSteps.{attach, register, lacks, unregister, take_direct, ack, renew};
+ghost use Rattle.push_model.specs.SessionSteps.{attach, attached, register, lacks, unregister, take_direct, ack, renew};
 ghost use Rattle.push_model.specs.Kinds.{costs_memory};
 ghost use Rattle.node_registry.specs.Attaching.{IsJoined, is_outrun};
 ghost use Rattle.user_cell.specs.Joining.{IsOutrunBy};
@@ -84,6 +84,13 @@ impl UserCell {
             self.channels.add(Channel { chid, token })?;
         }
         Ok(Reply::Endpoint(token))
+    }
+
+    /// Whether that session is attached.
+    pub fn is_attached(&self, s: SessionId) -> bool
+        ensures { result ≡ is_some (attached s self.now) }
+    {
+        self.sessions.attached(s).is_some()
     }
 
     /// Whether that session is attached, and its user has no such channel.

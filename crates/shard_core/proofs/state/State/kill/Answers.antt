@@ -1,9 +1,11 @@
-use Rattle.std.proofs.Common.{◌≡◌, ◌-◌, ℕ, Bool, true, List, slice_set, ap, sym, ◌∙◌}
+use Rattle.std.proofs.Common.{◌≡◌, ◌-◌, ℕ, Bool, true, List, slice_set, ap, sym, subst, ◌∙◌}
 use Rattle.push_model.specs.Cells.{Cell}
 use Rattle.push_model.specs.Tallies.{capped}
 use Rattle.push_model.specs.NodeSteps.{killed, held_on, orphaned_on}
 use Rattle.push_model.specs.Worlds.{World, each}
 use Rattle.push_model.specs.declared.reply.Reply.TheVariants.{Killed}
+use Rattle.shard_core.specs.Dues.{NoneDueIn}
+use Rattle.shard_core.proofs.DueCells.{due_each, due_killed}
 use Rattle.shard_core.proofs.Values.{sum_by-values}
 use Rattle.shard_core.proofs.state.State.kill.Goals as goal
 
@@ -20,3 +22,11 @@ returns c =
       record { shard = s.number; clock = s.clock; next = s.next; down = slice_set s.down (number i - 1) true; cells = cells i; tally = s.tally },
       Killed (held i) (orphaned i),
     ))
+
+pub invariant_of-self : goal.invariant_of-self
+invariant_of-self c =
+    let s = c.self.inside in
+    let n = c.args.node in (
+      c.self.invariant.0,
+      subst (NoneDueIn s.soonest) (sym c.kill_cells.ensures) (due_each (killed n) s.soonest s.cells.entries (λ d h. due_killed n s.soonest d h) c.self.invariant.1),
+    )
