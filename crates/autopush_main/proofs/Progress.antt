@@ -6,18 +6,17 @@ use Rattle.std.specs.Io.KnownBytes.{Consumes, Appends, Keeps}
 use Rattle.std.proofs.lemmas.List.{append-nil, length-append}
 use Rattle.push_model.specs.Worlds.{World, start}
 use Rattle.push_model.specs.Steps.{step}
-use Rattle.push_model.specs.Histories.{history, IsLegal, world_after}
-use Rattle.push_model.specs.Accounting.{IsAccounted}
-use Rattle.push_model.specs.Caring.{is_cared, none_waits, none_waited, counts_none}
-use Rattle.push_model.specs.declared.entry.Entry.{Entry}
+use Rattle.push_model.specs.Histories.{history}
+use Rattle.push_model.specs.Caring.{none_waits, none_waited, counts_none}
 use Rattle.push_model.specs.declared.reply.Reply.{Reply}
 use Rattle.push_model.specs.declared.step.Step.{Step}
 use Rattle.push_model.specs.declared.step.Step.TheVariants.{Report}
+use Rattle.push_laws.specs.Headline.{Headline}
 use Rattle.schedule_text.specs.Spelling.{spell}
 use Rattle.schedule_text.specs.Replies.{reply_line, SaysNoneWaits}
 use Rattle.autopush_main.specs.Lines.{NoLf, Moves}
 use Rattle.autopush_main.specs.Known.{AppendsFront}
-use Rattle.autopush_main.specs.Replay.{beginning, AreLines, IsRefused, IsTaken, lines_of, text, world_of, SaysForReport, ReportsSay, Headline, refusal, ended, IsRefusedBehind, IsWholeLine, IsLastLine, IsDone, IsRefusal, IsBroken, IsCut}
+use Rattle.autopush_main.specs.Replay.{beginning, AreLines, IsRefused, IsTaken, lines_of, text, world_of, SaysForReport, ReportsSay, KeepsHeadline, refusal, ended, IsRefusedBehind, IsWholeLine, IsLastLine, IsDone, IsRefusal, IsBroken, IsCut}
 use Rattle.autopush_main.specs.Turns.{NotTaken, RefusesFirst, Advances, Finishes, Refuses, CutsStep, CutsFirst, Turns, Replays}
 use Rattle.autopush_main.specs.declared.turn.End.{End}
 use Rattle.autopush_main.specs.declared.turn.End.TheVariants as ends
@@ -111,7 +110,7 @@ from_now (Some all) (Some left) read P Q c q h = subst P (sym c) (h left q)
 
 -- the laws hold of each list of steps
 abbrev pub Law : Type 0
-Law = (steps : List Step) → Headline steps
+Law = (steps : List Step) → KeepsHeadline steps
 
 pub done_from : Law → (before now after : Option (List ℕ)) (pending : List ℕ) (count : ℕ) (world : World) (held written more : Option (List ℕ))
     → Progress before now pending count world held written → Finishes now after pending count world written more → IsDone before after held more
@@ -245,29 +244,15 @@ ends_so law ends.ReadFault before now after pending rest count old new held writ
 ends_so law ends.WriteFault before now after pending rest count old new held written more le p t = cut_by law 6 before now after pending t.read count old new held written more le p t.input t.how
 ends_so law ends.NoMemory before now after pending rest count old new held written more le p t = cut_by law 7 before now after pending t.read count old new held written more le p t.input t.how
 
--- ---- the laws, from those of legal histories
-
-history-legal : (w : World) (steps : List Step) → IsLegal step w (history step 0 w steps)
-history-legal w [] = tt
-history-legal w (s ∷ steps) = (refl, history-legal (step w s).0 steps)
-
-world_of-history : (w : World) (steps : List Step) → world_after step w (history step 0 w steps) ≡ world_of w steps
-world_of-history w [] = refl
-world_of-history w (s ∷ steps) = world_of-history (step w s).0 steps
+-- ---- the headline of each replay
 
 both_true : (a b : Bool) → (a && b) ≡ true → (a ≡ true) × (b ≡ true)
 both_true true b h = (refl, h)
 both_true false b h = absurd (cc h)
 
--- what the laws of the definitions say
-abbrev pub Accounted : Type 0
-Accounted = (shard next : ℕ) (entries : List (Entry Step Reply)) → IsLegal step (start shard next) entries → IsAccounted (start shard next) entries
-
-abbrev pub Cared : Type 0
-Cared = (shard next : ℕ) (entries : List (Entry Step Reply)) → IsLegal step (start shard next) entries → is_cared (world_after step (start shard next) entries) ≡ true
-
-abbrev pub Reported : Type 0
-Reported = (shard next : ℕ) (entries : List (Entry Step Reply)) → IsLegal step (start shard next) entries → none_waited entries ≡ true
+-- what the laws of histories and of report lines say
+abbrev pub Kept : Type 0
+Kept = (by shard next : ℕ) (steps : List Step) → Headline (start shard next) (history step by (start shard next) steps)
 
 abbrev pub Said : Type 0
 Said = (r : Reply) → counts_none r ≡ true → SaysNoneWaits (reply_line r)
@@ -282,11 +267,7 @@ reports_say said w (s ∷ steps) h =
     let both = both_true (none_waits s (step w s).1) (none_waited (history step 0 (step w s).0 steps)) h in
     (says_for said s (step w s).1 both.0, reports_say said (step w s).0 steps both.1)
 
-pub headlines : Accounted → Cared → Reported → Said → Law
-headlines accounted cared reported said steps =
-    let legal = history-legal beginning steps in
-    record {
-      accounted = accounted 0 1 (history step 0 beginning steps) legal;
-      cared = ap is_cared (sym (world_of-history beginning steps)) ∙ cared 0 1 (history step 0 beginning steps) legal;
-      reports = reports_say said beginning steps (reported 0 1 (history step 0 beginning steps) legal);
-    }
+pub headlines : Kept → Said → Law
+headlines kept said steps =
+    let h = kept 0 0 1 steps in
+    record { history = h; reports = reports_say said beginning steps h.reports }

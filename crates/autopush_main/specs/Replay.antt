@@ -5,10 +5,9 @@ use Rattle.std.specs.Io.KnownBytes.{Consumes, Appends}
 use Rattle.push_model.specs.Worlds.{World, start}
 use Rattle.push_model.specs.Steps.{step}
 use Rattle.push_model.specs.Histories.{history}
-use Rattle.push_model.specs.Accounting.{IsAccounted}
-use Rattle.push_model.specs.Caring.{is_cared}
 use Rattle.push_model.specs.declared.step.Step.{Step}
 use Rattle.push_model.specs.declared.step.Step.TheVariants.{Report}
+use Rattle.push_laws.specs.Headline.{Headline}
 use Rattle.schedule_text.specs.Spelling.{spell, InRange}
 use Rattle.schedule_text.specs.Replies.{reply_line, SaysNoneWaits}
 use Rattle.autopush_main.specs.Known.{AppendsFront}
@@ -75,11 +74,9 @@ abbrev pub ReportsSay : World → List Step → Type 0
 ReportsSay w [] = Unit {0}
 ReportsSay w (s ∷ steps) = SaysForReport s (reply_line (step w s).1) × ReportsSay (step w s).0 steps
 
--- The laws that the history of these steps keeps: each message is accounted for; each row that a routed session wasn't
--- sent is covered; and each report says that none waits.
-pub record Headline (steps : List Step) : Type 0 where
-  pub accounted : IsAccounted beginning (history step 0 beginning steps)
-  pub cared : is_cared (world_of beginning steps) ≡ true
+-- The history of these steps keeps the headline, and the line of each report says that none waits.
+pub record KeepsHeadline (steps : List Step) : Type 0 where
+  pub history : Headline beginning (history step 0 beginning steps)
   pub reports : ReportsSay beginning steps
 
 abbrev pub refusal : ℕ → List ℕ
@@ -99,7 +96,7 @@ pub record IsDone (before after held now : Option (List ℕ)) : Type 0 where
   pub lines : AreLines (lines_of read) steps
   pub count : length steps ≤ limit
   pub output : Appends held now (text beginning steps)
-  pub headline : Headline steps
+  pub headline : KeepsHeadline steps
 
 -- the line behind those of the steps is refused, or is one too many
 abbrev pub IsRefusedBehind : Option (List ℕ) → List Step → Type 0
@@ -114,7 +111,7 @@ pub record IsRefusal (before after held now : Option (List ℕ)) : Type 0 where
   pub input : Consumes before after (ended steps ++ behind)
   pub refused : IsRefusedBehind before steps
   pub output : Appends held now (text beginning steps ++ refusal (length steps + 1))
-  pub headline : Headline steps
+  pub headline : KeepsHeadline steps
 
 -- reading broke off, and each line that was whole before was answered
 pub record IsBroken (before after held now : Option (List ℕ)) : Type 0 where
@@ -125,7 +122,7 @@ pub record IsBroken (before after held now : Option (List ℕ)) : Type 0 where
   pub input : Consumes before after (ended steps ++ partial)
   pub no_lf : NoLf partial
   pub output : Appends held now (text beginning steps)
-  pub headline : Headline steps
+  pub headline : KeepsHeadline steps
 
 -- ---- where writing broke off, or memory ran out
 
@@ -165,4 +162,4 @@ pub record IsCut (status : ℕ) (before after held now : Option (List ℕ)) : Ty
   pub mid : Option (List ℕ)
   pub whole : Appends held mid (text beginning earlier)
   pub cut : AppendsFront mid now piece
-  pub headline : Headline steps
+  pub headline : KeepsHeadline steps

@@ -3,7 +3,7 @@ ghost use Rattle.autopush_main.specs.Turns.{Replays, BlamesSourceEnd, BlamesSink
 
 use crate::pending::Pending;
 use crate::turn::{End, LINES, turn};
-use push_model::laws::{legal_histories_are_accounted, legal_histories_are_cared};
+use push_laws::steps_make_legal_histories;
 use push_outside::{Sink, Source};
 use schedule_text::laws::reports_say_that_none_waits;
 use shard_core::Shard;
@@ -15,8 +15,7 @@ pub fn run<I: Source, K: Sink>(alloc: Global, input: &mut I, output: &mut K) -> 
     ensures source { BlamesSourceEnd result (I.faults input.old) (I.faults input.new) (I.lulls input.old) (I.lulls input.new) }
     ensures sink { BlamesSink result (K.faults output.old) (K.faults output.new) (K.lulls output.old) (K.lulls output.new) }
 {
-    legal_histories_are_accounted();
-    legal_histories_are_cared();
+    steps_make_legal_histories();
     reports_say_that_none_waits();
     let mut shard = Shard::start(alloc, 0);
     let mut pending = Pending::new(alloc);

@@ -6,7 +6,7 @@ use Rattle.autopush_main.proofs.run.run.Goals as goal
 pub returns-in-Some-clause-replays : goal.returns-in-Some-clause-replays
 returns-in-Some-clause-replays g c =
     let i = c.loop-count.invariant in
-    ends_so (headlines c.legal_histories_are_accounted.ensures c.legal_histories_are_cared.ensures.cared c.legal_histories_are_cared.ensures.reported c.reports_say_that_none_waits.ensures) c.in-Some.end _ _ _ _ _ _ _ _ _ _ _ i.early i.progress c.in-Some.ensures.turns
+    ends_so (headlines c.steps_make_legal_histories.ensures.headline c.reports_say_that_none_waits.ensures) c.in-Some.end _ _ _ _ _ _ _ _ _ _ _ i.early i.progress c.in-Some.ensures.turns
 
 pub loop-count-preserved : goal.loop-count-preserved
 loop-count-preserved g c =

@@ -1,0 +1,9 @@
+mod Counts
+mod Names
+mod UserRows
+mod Actors
+mod Tidy
+mod SessionTidy
+mod FlightTidy
+mod Sounds
+mod Headlines
