@@ -2,3 +2,5 @@ pub mod Words
 pub mod Spelling
 pub mod Replies
 pub mod Reading
+pub mod Kinds
+pub mod Wrongs

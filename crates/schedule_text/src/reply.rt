@@ -1,5 +1,5 @@
 //! The line of a reply.
-ghost use Rattle.std.specs.Prelude.{◌≡◌, ◌++◌, IfOk, OnOk, decimal};
+ghost use Rattle.std.specs.Prelude.{◌≡◌, ◌++◌, [], IfOk, OnOk, decimal};
 ghost use Rattle.std.specs.String.{string_bytes};
 ghost use Rattle.push_model.specs.declared.reply.Reply.TheVariants.{Begun, Counts as CountsAre, Endpoint, Left, Page, Users as UsersAre};
 ghost use Rattle.schedule_text.specs.Words.{word};
@@ -11,11 +11,11 @@ use push_model::{
     Uaid, Users,
 };
 use std::alloc::{AllocError, Global};
+use std::marker::Model;
+use std::mem;
 
-/// The room for a line of a few words, and for one of counts.
+/// The room for a line of a few words.
 const ROOM: usize = 64;
-
-const LONG: usize = 256;
 
 fn stage_word(stage: &Stage) -> &'static str
     ensures { result.now ≡ stage_word stage.now }
@@ -56,10 +56,12 @@ fn reason_word(why: Reason) -> &'static str
     }
 }
 
-fn opened(alloc: Global, room: usize, name: &str) -> Result<String, AllocError>
+// The name alone, in the room of another text.
+fn opened(room: String, name: &str) -> Result<String, AllocError>
     ensures { IfOk result (λ text. string_bytes text ≡ name.now) }
 {
-    let mut text = String::with_capacity(alloc, room)?;
+    let mut text = room;
+    text.clear();
     text.push_str(name)?;
     Ok(text)
 }
@@ -72,37 +74,37 @@ fn closed(mut text: String) -> Result<String, AllocError>
 }
 
 // A name and a word.
-fn word_line(alloc: Global, name: &str, last: &str) -> Result<String, AllocError>
+fn word_line(room: String, name: &str, last: &str) -> Result<String, AllocError>
     ensures { IfOk result (λ line. string_bytes line ≡ name.now ++ (word last.now ++ lf)) }
 {
-    let mut text = opened(alloc, ROOM, name)?;
+    let mut text = opened(room, name)?;
     put_word(&mut text, last)?;
     closed(text)
 }
 
 // A name and a number.
-fn number_line(alloc: Global, name: &str, number: u64) -> Result<String, AllocError>
+fn number_line(room: String, name: &str, number: u64) -> Result<String, AllocError>
     ensures { IfOk result (λ line. string_bytes line ≡ name.now ++ (word (decimal number) ++ lf)) }
 {
-    let mut text = opened(alloc, ROOM, name)?;
+    let mut text = opened(room, name)?;
     put_decimal(&mut text, number)?;
     closed(text)
 }
 
 // A name and two numbers.
-fn numbers_line(alloc: Global, name: &str, first: u64, last: u64) -> Result<String, AllocError>
+fn numbers_line(room: String, name: &str, first: u64, last: u64) -> Result<String, AllocError>
     ensures { IfOk result (λ line. string_bytes line ≡ name.now ++ (word (decimal first) ++ (word (decimal last) ++ lf))) }
 {
-    let mut text = opened(alloc, ROOM, name)?;
+    let mut text = opened(room, name)?;
     put_decimal(&mut text, first)?;
     put_decimal(&mut text, last)?;
     closed(text)
 }
 
-fn endpoint_line(alloc: Global, token: &Token) -> Result<String, AllocError>
+fn endpoint_line(room: String, token: &Token) -> Result<String, AllocError>
     ensures { IfOk result (λ line. string_bytes line ≡ reply_line (Endpoint token.now)) }
 {
-    let mut text = opened(alloc, ROOM, "endpoint")?;
+    let mut text = opened(room, "endpoint")?;
     put_token(&mut text, token)?;
     closed(text)
 }
@@ -119,19 +121,19 @@ fn put_place(text: &mut String, place: Option<(NodeId, u64)>) -> Result<(), Allo
     }
 }
 
-fn begun_line(alloc: Global, id: MsgId, place: Option<(NodeId, u64)>) -> Result<String, AllocError>
+fn begun_line(room: String, id: MsgId, place: Option<(NodeId, u64)>) -> Result<String, AllocError>
     ensures { IfOk result (λ line. string_bytes line ≡ reply_line (Begun id place)) }
 {
-    let mut text = opened(alloc, ROOM, "begun")?;
+    let mut text = opened(room, "begun")?;
     put_decimal(&mut text, id.number)?;
     put_place(&mut text, place)?;
     closed(text)
 }
 
-fn left_line(alloc: Global, id: MsgId, why: Reason) -> Result<String, AllocError>
+fn left_line(room: String, id: MsgId, why: Reason) -> Result<String, AllocError>
     ensures { IfOk result (λ line. string_bytes line ≡ reply_line (Left id why)) }
 {
-    let mut text = opened(alloc, ROOM, "left")?;
+    let mut text = opened(room, "left")?;
     put_decimal(&mut text, id.number)?;
     put_word(&mut text, reason_word(why))?;
     closed(text)
@@ -147,10 +149,10 @@ fn put_message(text: &mut String, message: &Message) -> Result<(), AllocError>
     put_payload(text, &message.ask.payload)
 }
 
-fn page_line(alloc: Global, pages: &Pages) -> Result<String, AllocError>
+fn page_line(room: String, pages: &Pages) -> Result<String, AllocError>
     ensures { IfOk result (λ line. string_bytes line ≡ reply_line (Page pages.now)) }
 {
-    let mut text = opened(alloc, ROOM, "page")?;
+    let mut text = opened(room, "page")?;
     for place in 0..pages.len() {
         put_message(&mut text, pages.at(place))?;
     }
@@ -177,10 +179,10 @@ fn put_user(text: &mut String, user: (Uaid, Option<NodeId>, u64)) -> Result<(), 
     push_decimal(text, user.2)
 }
 
-fn users_line(alloc: Global, users: &Users) -> Result<String, AllocError>
+fn users_line(room: String, users: &Users) -> Result<String, AllocError>
     ensures { IfOk result (λ line. string_bytes line ≡ reply_line (UsersAre users.now)) }
 {
-    let mut text = opened(alloc, LONG, "users")?;
+    let mut text = opened(room, "users")?;
     for place in 0..users.len() {
         put_user(&mut text, users.at(place))?;
     }
@@ -194,10 +196,10 @@ fn put_count(text: &mut String, name: &str, count: u64) -> Result<(), AllocError
     put_decimal(text, count)
 }
 
-fn counts_line(alloc: Global, counts: &Counts) -> Result<String, AllocError>
+fn counts_line(room: String, counts: &Counts) -> Result<String, AllocError>
     ensures { IfOk result (λ line. string_bytes line ≡ reply_line (CountsAre counts.now)) }
 {
-    let mut text = opened(alloc, LONG, "report")?;
+    let mut text = opened(room, "report")?;
     put_count(&mut text, " users", counts.users)?;
     put_count(&mut text, " stored", counts.stored)?;
     put_count(&mut text, " held", counts.held)?;
@@ -208,61 +210,117 @@ fn counts_line(alloc: Global, counts: &Counts) -> Result<String, AllocError>
     closed(text)
 }
 
-fn reply_text(alloc: Global, reply: &Reply) -> Result<String, AllocError>
+// The line of the reply, in the room of another text.
+fn reply_text(room: String, reply: &Reply) -> Result<String, AllocError>
     ensures { IfOk result (λ text. string_bytes text ≡ reply_line reply.now) }
 {
     match reply {
-        Reply::Made => String::from_str(alloc, "made\n"),
-        Reply::Taken => String::from_str(alloc, "taken\n"),
-        Reply::NotClaimed => String::from_str(alloc, "notclaimed\n"),
-        Reply::NodeDown => String::from_str(alloc, "nodedown\n"),
-        Reply::Outrun(at) => number_line(alloc, "outrun", *at),
-        Reply::Attached(None) => word_line(alloc, "attached", "."),
-        Reply::Attached(Some(at)) => number_line(alloc, "attached", *at),
-        Reply::Endpoint(token) => endpoint_line(alloc, token),
-        Reply::TokenTaken => String::from_str(alloc, "tokentaken\n"),
-        Reply::NoSession => String::from_str(alloc, "nosession\n"),
-        Reply::NoFlight => String::from_str(alloc, "noflight\n"),
-        Reply::Stage(stage) => word_line(alloc, "stage", stage_word(stage)),
-        Reply::NoToken => String::from_str(alloc, "notoken\n"),
-        Reply::IdsSpent => String::from_str(alloc, "idsspent\n"),
-        Reply::Begun(id, place) => begun_line(alloc, *id, *place),
-        Reply::Here(_) => String::from_str(alloc, "here\n"),
-        Reply::NotHere => String::from_str(alloc, "nothere\n"),
-        Reply::Stored => String::from_str(alloc, "stored\n"),
-        Reply::Names(node, at) => numbers_line(alloc, "names", u64::from(node.get()), *at),
-        Reply::End(code) => number_line(alloc, "end", u64::from(*code)),
-        Reply::Moved(stage) => word_line(alloc, "moved", stage_word(stage)),
-        Reply::Due => String::from_str(alloc, "due\n"),
-        Reply::NotDue => String::from_str(alloc, "notdue\n"),
-        Reply::Page(pages) => page_line(alloc, pages),
-        Reply::Acked(from) => word_line(alloc, "acked", list_word(*from)),
-        Reply::Unknown => String::from_str(alloc, "unknown\n"),
-        Reply::Counts(counts) => counts_line(alloc, counts),
-        Reply::Done => String::from_str(alloc, "done\n"),
-        Reply::NoUser => String::from_str(alloc, "nouser\n"),
-        Reply::Stale(at) => number_line(alloc, "stale", *at),
-        Reply::Claimed(None) => word_line(alloc, "claimed", "."),
-        Reply::Claimed(Some(node)) => number_line(alloc, "claimed", u64::from(node.get())),
-        Reply::Renewed => String::from_str(alloc, "renewed\n"),
-        Reply::Kept => String::from_str(alloc, "kept\n"),
-        Reply::Cleared => String::from_str(alloc, "cleared\n"),
-        Reply::Saving(count) => number_line(alloc, "saving", *count),
-        Reply::Saved(id) => number_line(alloc, "saved", id.number),
-        Reply::Left(id, why) => left_line(alloc, *id, *why),
-        Reply::AllSaved => String::from_str(alloc, "allsaved\n"),
-        Reply::Dropped => String::from_str(alloc, "dropped\n"),
-        Reply::Killed(held, orphans) => numbers_line(alloc, "killed", *held, *orphans),
-        Reply::Users(users) => users_line(alloc, users),
+        Reply::Made => opened(room, "made\n"),
+        Reply::Taken => opened(room, "taken\n"),
+        Reply::NotClaimed => opened(room, "notclaimed\n"),
+        Reply::NodeDown => opened(room, "nodedown\n"),
+        Reply::Outrun(at) => number_line(room, "outrun", *at),
+        Reply::Attached(None) => word_line(room, "attached", "."),
+        Reply::Attached(Some(at)) => number_line(room, "attached", *at),
+        Reply::Endpoint(token) => endpoint_line(room, token),
+        Reply::TokenTaken => opened(room, "tokentaken\n"),
+        Reply::NoSession => opened(room, "nosession\n"),
+        Reply::NoFlight => opened(room, "noflight\n"),
+        Reply::Stage(stage) => word_line(room, "stage", stage_word(stage)),
+        Reply::NoToken => opened(room, "notoken\n"),
+        Reply::IdsSpent => opened(room, "idsspent\n"),
+        Reply::Begun(id, place) => begun_line(room, *id, *place),
+        Reply::Here(_) => opened(room, "here\n"),
+        Reply::NotHere => opened(room, "nothere\n"),
+        Reply::Stored => opened(room, "stored\n"),
+        Reply::Names(node, at) => numbers_line(room, "names", u64::from(node.get()), *at),
+        Reply::End(code) => number_line(room, "end", u64::from(*code)),
+        Reply::Moved(stage) => word_line(room, "moved", stage_word(stage)),
+        Reply::Due => opened(room, "due\n"),
+        Reply::NotDue => opened(room, "notdue\n"),
+        Reply::Page(pages) => page_line(room, pages),
+        Reply::Acked(from) => word_line(room, "acked", list_word(*from)),
+        Reply::Unknown => opened(room, "unknown\n"),
+        Reply::Counts(counts) => counts_line(room, counts),
+        Reply::Done => opened(room, "done\n"),
+        Reply::NoUser => opened(room, "nouser\n"),
+        Reply::Stale(at) => number_line(room, "stale", *at),
+        Reply::Claimed(None) => word_line(room, "claimed", "."),
+        Reply::Claimed(Some(node)) => number_line(room, "claimed", u64::from(node.get())),
+        Reply::Renewed => opened(room, "renewed\n"),
+        Reply::Kept => opened(room, "kept\n"),
+        Reply::Cleared => opened(room, "cleared\n"),
+        Reply::Saving(count) => number_line(room, "saving", *count),
+        Reply::Saved(id) => number_line(room, "saved", id.number),
+        Reply::Left(id, why) => left_line(room, *id, *why),
+        Reply::AllSaved => opened(room, "allsaved\n"),
+        Reply::Dropped => opened(room, "dropped\n"),
+        Reply::Killed(held, orphans) => numbers_line(room, "killed", *held, *orphans),
+        Reply::Users(users) => users_line(room, users),
     }
+}
+
+// A text of the reply's line.
+fn new_text(alloc: Global, reply: &Reply) -> Result<String, AllocError>
+    ensures { IfOk result (λ text. string_bytes text ≡ reply_line reply.now) }
+{
+    let room = String::with_capacity(alloc, ROOM)?;
+    reply_text(room, reply)
 }
 
 /// The line of the reply, with its LF.
 pub fn print_reply(alloc: Global, reply: &Reply) -> Result<Text, NoMemory>
     ensures { IfOk result (λ t. t ≡ reply_line reply.now) }
 {
-    match reply_text(alloc, reply) {
+    match new_text(alloc, reply) {
         Ok(text) => Ok(Text::from_string(text)),
         Err(_) => Err(NoMemory),
+    }
+}
+
+/// The line of a reply, whose room is kept for the next. Contracts see its bytes.
+#[derive(Drop)]
+pub struct ReplyLine {
+    text: String,
+}
+
+impl Model for ReplyLine {
+    ghost use Rattle.std.specs.Prelude.{List, ℕ};
+    ghost use Rattle.std.specs.String.{string_bytes};
+
+    ghost Value = { List ℕ };
+
+    ghost view = { λ l. string_bytes l.text };
+}
+
+impl ReplyLine {
+    /// No line. It takes no memory.
+    pub fn new(alloc: Global) -> ReplyLine
+        ensures { result ≡ [] }
+    {
+        ReplyLine {
+            text: String::new(alloc),
+        }
+    }
+
+    /// Becomes the line of the reply, with its LF.
+    pub fn print(&mut self, alloc: Global, reply: &Reply) -> Result<(), NoMemory>
+        ensures { OnOk result (self.new ≡ reply_line reply.now) }
+    {
+        let room = mem::replace(&mut self.text, String::new(alloc));
+        match reply_text(room, reply) {
+            Ok(text) => {
+                self.text = text;
+                Ok(())
+            }
+            Err(_) => Err(NoMemory),
+        }
+    }
+
+    /// Its bytes.
+    pub fn bytes(&self) -> &[u8]
+        ensures { result.now ≡ self.now }
+    {
+        self.text.as_str().as_bytes()
     }
 }

@@ -13,7 +13,7 @@ use std::marker::Model;
 const LAST: u64 = (1 << 63) - 1;
 
 /// The bytes up to the first space, and those from it on.
-fn cut(bytes: &[u8]) -> (&[u8], &[u8])
+pub fn cut(bytes: &[u8]) -> (&[u8], &[u8])
     ensures front { result.0.now ≡ first_word bytes.now }
     ensures back { result.1.now ≡ after_word bytes.now }
 {
