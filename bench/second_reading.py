@@ -2,7 +2,8 @@
 """A second reading of docs/FORMATS.md: the replies to random schedules, worked out here, against those of the program.
 
 The proofs say that the program is its definitions. This asks whether the definitions are what the page says. It runs the
-program that the gate left (`rt run` builds it too), and counts which kinds of lines met which kinds of replies.
+program that the gate left (`rt run` builds it too), counts which kinds of lines met which kinds of replies, and names those
+that the page lets a kind of line reply, but that none did.
 Usage: second_reading.py [SCHEDULES [LINES [SEED]]]
 """
 import collections
@@ -13,6 +14,59 @@ import sys
 
 PROGRAM = pathlib.Path(__file__).resolve().parent.parent / "crates/autopush/out/autopush"
 IDLE = 5_184_000
+
+FLIGHT = ["direct", "told", "store", "reread", "nudge", "toldnudge", "clear"]
+SAVER = ["saving", "reread", "nudge", "toldnudge", "clear"]
+SESSION = ["idle", "topic", "plain", "displaced"]
+
+
+def but(stages, *own):
+    """The replies of an actor that is at another of these stages."""
+    return [f"stage {stage}" for stage in stages if stage not in own]
+
+
+# What each kind of line can be replied.
+REPLIES = {
+    "create": ["made", "taken"],
+    "claim": ["nouser", "stale", "claimed"],
+    "attach": ["nodedown", "notclaimed", "outrun", "attached"],
+    "register": ["nosession", "endpoint", "tokentaken"],
+    "unregister": ["nosession", "done"],
+    "check": ["nosession", "due", "notdue"],
+    "topics": ["nosession", "stage idle", "stage plain", "page"],
+    "plains": ["nosession", "stage idle", "stage topic", "page"],
+    "take": ["nosession", "page"],
+    "ack": ["nosession", "acked direct", "acked stored", "unknown"],
+    "renew": ["nosession", "renewed", "kept"],
+    "close": ["nosession", "saving"] + but(SAVER),
+    "release": ["nosession", "cleared", "kept"] + but(SAVER + SESSION, "saving"),
+    "save": ["nosession", "allsaved", "saved", "left channel", "left zero", "left expired", "left replaced"] + but(SAVER + SESSION, "saving"),
+    "begin": ["notoken", "idsspent", "begun"] + but(FLIGHT),
+    "direct": ["noflight", "here", "nothere"] + but(FLIGHT, "direct"),
+    "store": ["noflight", "stored", "end 201", "end 410", "end 503"] + but(FLIGHT, "store"),
+    "giveup": ["noflight", "end 500"] + but(FLIGHT, "direct", "told", "store"),
+    "reread f": ["noflight", "names", "end 201"] + but(FLIGHT, "reread"),
+    "reread s": ["nosession", "names", "end 200"] + but(SAVER + SESSION, "reread"),
+    "nudge f": ["noflight", "here", "nothere"] + but(FLIGHT, "nudge"),
+    "nudge s": ["nosession", "here", "nothere"] + but(SAVER + SESSION, "nudge"),
+    "heard f": ["noflight", "end 201", "moved store", "moved clear"] + but(FLIGHT, "told", "toldnudge"),
+    "heard s": ["nosession", "end 200", "moved clear"] + but(SAVER + SESSION, "toldnudge"),
+    "lost f": ["noflight", "end 201", "moved store", "moved clear"] + but(FLIGHT, "direct", "told", "nudge", "toldnudge"),
+    "lost s": ["nosession", "moved clear"] + but(SAVER + SESSION, "nudge", "toldnudge"),
+    "clear f": ["noflight", "end 201"] + but(FLIGHT, "clear"),
+    "clear s": ["nosession", "end 200"] + but(SAVER + SESSION, "clear"),
+    "notif": ["here", "nothere"],
+    "tick": ["done"],
+    "kill": ["killed"],
+    "up": ["done"],
+    "expire": ["kept", "dropped"],
+    "drop": ["kept", "dropped"],
+    "orphans": ["users"],
+    "idle": ["users"],
+    "report": ["report"],
+}
+# Why no schedule meets these.
+UNREACHED = {("begin", "idsspent"): "a replay's first message has the number 1, and there would have to be 2^63 - 1 before"}
 
 
 class Session:
@@ -567,6 +621,12 @@ class Picker:
         self.leaving = pick.choice([0.1, 1, 4])
         self.killing = pick.choice([0, 0.05, 0.5])
         self.acking = pick.choice([0.3, 3, 9])
+        self.attaching = pick.choice([0.5, 5, 5])
+        if pick.random() < 0.05:
+            # a user whose rows stay, up to the thousand
+            self.hoards, self.many, self.ttls, self.topics, self.ops = True, 1, [2_592_000], ["."] * 7 + ["t"], 50
+        else:
+            self.hoards = False
 
     def session(self, among=("sessions", "savers", "claims")):
         """A uaid, a node and a moment: of one that is there, mostly."""
@@ -636,7 +696,9 @@ class Picker:
         if kind.startswith("s "):
             s, verb = self.session(("savers",)), kind[2:]
             return f"{verb} s {s[0]:x} {s[1]} {s[2]}", getattr(shard, "saver_" + verb)(*s)
-        among = {"attach": ("claims",), "release": ("savers",), "save": ("savers",), "close": ("sessions",)}
+        among = {"attach": ("claims",), "release": ("savers",), "save": ("savers",)}
+        if kind == "close" and pick.random() < 0.1:
+            among["close"] = ("savers",)
         s = self.session(among.get(kind, ("sessions",)))
         name = f"{kind} {s[0]:x} {s[1]} {s[2]}"
         if kind == "register":
@@ -656,15 +718,25 @@ class Picker:
         return [f"{u}{c}" for u in range(1, self.many + 1) for c in "456"] + ["1ab"]
 
     def weights(self):
+        if self.hoards:
+            return {"create": 1, "attach": 1, "register": 1, "begin": 9, "f lost": 12, "store": 9, "f reread": 9, "f clear": 6, "renew": 3, "report": 0.1}
         leaving, killing = self.leaving, self.killing
         return {
-            "create": 2, "claim": 2 * leaving, "attach": 5, "register": 4, "unregister": 0.4 * leaving,
+            "create": 2, "claim": 2 * leaving, "attach": self.attaching, "register": 4, "unregister": 0.4 * leaving,
             "begin": 14, "direct": 9, "store": 9, "giveup": 0.4, "f reread": 7, "f nudge": 6, "f heard": 8, "f lost": 4, "f clear": 3,
             "check": 5, "topics": 5, "plains": 5, "take": 4, "ack": self.acking, "renew": 2,
             "close": 1.5 * leaving, "release": leaving, "save": 6 * leaving, "s reread": 2, "s nudge": 2, "s heard": 2, "s lost": 0.5,
             "s clear": 1, "notif": 0.6, "tick": 1.5, "kill": killing, "up": 2 * killing, "expire": 0.2, "drop": 0.1 * leaving,
             "orphans": 0.4, "idle": 0.4, "report": 3,
         }
+
+
+def kind_of_reply(reply):
+    """The first word, and the second where that tells kinds apart."""
+    first = reply.split(" ")
+    if first[0] == "left":
+        return f"left {first[2]}"
+    return " ".join(first[:2]) if first[0] in ("stage", "moved", "end", "acked") else first[0]
 
 
 def schedule(pick, lines, met):
@@ -677,9 +749,19 @@ def schedule(pick, lines, met):
         replied.append(reply)
         words = line.split(" ")
         kind = " ".join(words[:2]) if words[0] in ("reread", "nudge", "heard", "lost", "clear") else words[0]
-        first = reply.split(" ")
-        met[kind, " ".join(first[:2]) if first[0] in ("stage", "moved", "end", "acked") else first[0]] += 1
+        met[kind, kind_of_reply(reply)] += 1
     return said, replied
+
+
+def tell_unmet(met):
+    """Says which pairs the page allows and the schedules didn't meet; a pair that it doesn't allow is a fault."""
+    allowed = {(kind, reply) for kind, replies in REPLIES.items() for reply in replies}
+    for kind, reply in sorted(set(met) - allowed):
+        print(f"{kind}: {reply} is none of its replies")
+    print(f"of {len(allowed)} such pairs that can be {len(allowed & set(met))} were met, and not:")
+    for pair in sorted(allowed - set(met)):
+        print(f"  {pair[0]}: {pair[1]} ({UNREACHED.get(pair, 'not in this run')})")
+    return not set(met) - allowed
 
 
 def main():
@@ -703,7 +785,7 @@ def main():
         kinds[kind].append(f"{reply} {times}")
     for kind, replies in sorted(kinds.items()):
         print(f"  {kind}: {', '.join(replies)}")
-    return 0
+    return 0 if tell_unmet(met) else 1
 
 
 if __name__ == "__main__":

@@ -10,6 +10,8 @@ mod faults;
 #[cfg(test)]
 mod long;
 #[cfg(test)]
+mod lulls;
+#[cfg(test)]
 mod order;
 #[cfg(test)]
 mod parts;

@@ -66,22 +66,61 @@ fn channels(rt: HostRuntime) -> Result<(), Fail> {
     Ok(())
 }
 
-// Spells the token whose bytes are all that one, and reads it again.
-fn spells(rt: &impl Abort, alloc: Global, byte: u8, text: &str) -> Result<(), Fail> {
-    assert_eq!(rt; spell(alloc, &Token([byte; 24]))?.as_str(), text);
-    let token = read_token(text.as_bytes()).ok_or("a token")?;
-    assert_eq!(rt; token.0, [byte; 24]);
+// Spells the token, and reads it again.
+fn spells(rt: &impl Abort, alloc: Global, token: Token, text: &str) -> Result<(), Fail> {
+    assert_eq!(rt; spell(alloc, &token)?.as_str(), text);
+    let again = read_token(text.as_bytes()).ok_or("a token")?;
+    assert_eq!(rt; again.0, token.0);
     Ok(())
 }
 
 #[test]
 fn tokens(rt: HostRuntime) -> Result<(), Fail> {
     let alloc = rt.alloc();
-    spells(&rt, alloc, 0, "AAAAAAAAAAAAAAAAAAAAAAAAAAAAAAAA")?;
-    spells(&rt, alloc, 255, "________________________________")?;
-    spells(&rt, alloc, 0xfb, "-_v7-_v7-_v7-_v7-_v7-_v7-_v7-_v7")?;
-    assert!(rt; read_token(b"AAAAAAAAAAAAAAAAAAAAAAAAAAAAAAA=").is_none());
-    Ok(())
+    spells(
+        &rt,
+        alloc,
+        Token([0; 24]),
+        "AAAAAAAAAAAAAAAAAAAAAAAAAAAAAAAA",
+    )?;
+    spells(
+        &rt,
+        alloc,
+        Token([255; 24]),
+        "________________________________",
+    )?;
+    spells(
+        &rt,
+        alloc,
+        Token([0xfb; 24]),
+        "-_v7-_v7-_v7-_v7-_v7-_v7-_v7-_v7",
+    )?;
+    let mut bytes = [0; 24];
+    bytes[22] = 0x01;
+    bytes[23] = 0xab;
+    spells(&rt, alloc, Token(bytes), "AAAAAAAAAAAAAAAAAAAAAAAAAAAAAAGr")
+}
+
+// None; one character and two too few, the last of which leave bits over, and one too many; padding; the other alphabet;
+// and characters of neither.
+const NO_TOKENS: &str = "
+AAAAAAAAAAAAAAAAAAAAAAAAAAAAAAG
+AAAAAAAAAAAAAAAAAAAAAAAAAAAAAB
+AAAAAAAAAAAAAAAAAAAAAAAAAAAAAAGrA
+AAAAAAAAAAAAAAAAAAAAAAAAAAAAAAA=
+AAAAAAAAAAAAAAAAAAAAAAAAAAAAAA==
+AAAAAAAAAAAAAAAAAAAAAAAAAAAAAAGr=
++AAAAAAAAAAAAAAAAAAAAAAAAAAAAAAA
+AAAAAAAAAAAAAAAA/AAAAAAAAAAAAAAA
+AAAAAAAAAAAAAAAAAAAAAAAAAAAAAAA.
+ AAAAAAAAAAAAAAAAAAAAAAAAAAAAAAA
+AAAAAAAAAAAAAAAAAAAAAAAAAAAAAA\u{e9}";
+
+#[test]
+fn other_texts_are_no_tokens(rt: HostRuntime) {
+    for text in NO_TOKENS.lines() {
+        assert!(rt; read_token(text.as_bytes()).is_none(), "{text}");
+    }
 }
 
 #[test]

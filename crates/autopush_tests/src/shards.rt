@@ -80,6 +80,47 @@ fn direct_and_stored(rt: HostRuntime) -> Result<(), Fail> {
     Ok(())
 }
 
+const LEFT: &str = "claim 1 2 200 > claimed 1
+attach 1 2 200 > attached .
+begin 1 1 1ab 60 . normal 01 > begun 1 2 200
+direct 1 1 > here
+begin 1 2 1ab 0 . normal 02 > begun 2 2 200
+direct 1 2 > here
+begin 1 3 1ab 60 . normal 03 > begun 3 2 200
+direct 1 3 > here
+heard f 1 1 > end 201
+heard f 1 2 > end 201
+close 1 2 200 > saving 3
+release 1 2 200 > cleared
+save 1 2 200 > saved 1
+save 1 2 200 > left 2 zero
+begin 1 4 1ab 0 . normal . > begun 4 .
+kill 2 > killed 1 1
+unregister 1 1 100 5 > done
+lost f 1 3 > moved store
+store 1 3 > end 410
+report > report users 1 stored 0 held 0 flights 0 unsent 0 orphans 0 waiting 0";
+
+#[test]
+fn saved_left_and_killed(rt: HostRuntime) -> Result<(), Fail> {
+    let alloc = rt.alloc();
+    let mut shard = opened(&rt, alloc)?;
+    all(&rt, alloc, &mut shard, LEFT)?;
+    let tally = Tally {
+        begun: 4,
+        ok: 3,
+        refused: 1,
+        stored: 0,
+        shown: 0,
+        acked: 0,
+        saved: 1,
+        left: 1,
+        lost: 1,
+    };
+    assert_eq!(rt; shard.tally(), tally);
+    Ok(())
+}
+
 const SPENT: &str = "begin 1 1 1ab 60 . normal . > begun 9223372036854775807 1 100
 begin 1 1 1ab 60 . normal . > stage direct
 begin 1 2 1ac 60 . normal . > notoken
