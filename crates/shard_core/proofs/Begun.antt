@@ -17,7 +17,7 @@ use Rattle.push_model.specs.Steps.{OnUser}
 use Rattle.push_model.specs.FlightSteps.{begin, begin_to}
 use Rattle.push_model.specs.Worlds.{World, has_token_in}
 use Rattle.push_model.specs.Reached.{IsReached}
-use Rattle.push_model.proofs.Members.{In, find_in, find_passes}
+use Rattle.push_model.proofs.Members.{find_in, find_passes}
 use Rattle.push_model.proofs.Reached.{reached_there}
 use Rattle.shard_core.specs.Made.{StepsTo}
 use Rattle.shard_core.specs.Shards.{HasUser}

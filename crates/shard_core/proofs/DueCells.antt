@@ -1,6 +1,6 @@
 -- Moments below which no row is due, as the cells change.
-use Rattle.std.proofs.Common.{◌≡◌, ℕ, ◌<◌, ◌≤◌, Bool, true, false, not, cond, ◌||◌, inl, inr, List, [], ◌∷◌, ◌++◌, refl, ap, sym, subst, ◌∙◌, min, arith}
-use Rattle.std.specs.Prelude.{Option, Some, None, IfSome, IfNone, map, filter, option_map, if◌then◌else◌}
+use Rattle.std.proofs.Common.{◌≡◌, ℕ, ◌<◌, ◌≤◌, Bool, true, false, cond, ◌||◌, inl, inr, List, [], ◌∷◌, ◌++◌, refl, ap, sym, subst, ◌∙◌, min, arith}
+use Rattle.std.specs.Prelude.{Option, Some, None, IfSome, map, option_map, if◌then◌else◌}
 use Rattle.std.specs.List.{list_any}
 use Rattle.std.specs.Map.{lookup, values_of}
 use Rattle.std.specs.Ordering.{nat_cmp}
@@ -9,7 +9,6 @@ use Rattle.std.proofs.lemmas.Map.Made.{lookup-map_values}
 use Rattle.std.proofs.lemmas.Bool.Decides.{nat_tests}
 use Rattle.push_model.specs.declared.ids.Uaid.{Uaid}
 use Rattle.push_model.specs.declared.parts.Row.{Row}
-use Rattle.push_model.specs.Messages.{is_expired}
 use Rattle.push_model.specs.Cells.{Cell, Saver, User, rows_of, is_there}
 use Rattle.push_model.specs.ClockSteps.{ticked, without_due}
 use Rattle.push_model.specs.NodeSteps.{orphaned, with_orphans, killed}

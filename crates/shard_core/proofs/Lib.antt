@@ -6,3 +6,6 @@ mod Begun
 mod Steps
 mod Lists
 mod DueCells
+mod Owners
+mod FlightOwners
+mod TokenOwners

@@ -1,5 +1,5 @@
 -- Only a step and a reply that cost memory make a cell that is there.
-use Rattle.std.proofs.Common.{◌≡◌, ℕ, true, false, refl, sym, ◌∙◌, ap}
+use Rattle.std.proofs.Common.{◌≡◌, ℕ, true, false, refl, ◌∙◌, ap}
 use Rattle.push_model.specs.declared.ids.Uaid.{Uaid}
 use Rattle.push_model.specs.declared.step.Actor.TheVariants.{Flight as OfFlight, Saver as OfSaver}
 use Rattle.push_model.specs.declared.step.Step.{Step}

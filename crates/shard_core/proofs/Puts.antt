@@ -1,6 +1,6 @@
 -- A step on the cell of one user, and what it makes of the world.
-use Rattle.std.proofs.Common.{◌≡◌, ℕ, Bool, true, false, cond, not, List, refl, ◌∙◌, ap, sym, subst, arith}
-use Rattle.std.specs.Prelude.{Option, Some, None, Result, Ok, Err, OnOk, if◌then◌else◌}
+use Rattle.std.proofs.Common.{◌≡◌, ℕ, Bool, true, false, cond, List, refl, ◌∙◌, ap, sym, subst, arith}
+use Rattle.std.specs.Prelude.{Some, None, Result, Ok, Err, OnOk, if◌then◌else◌}
 use Rattle.std.specs.Result.{is_err}
 use Rattle.std.specs.Map.{lookup, set_value, remove_entry}
 use Rattle.std.specs.Ordering.{nat_cmp}
@@ -10,7 +10,6 @@ use Rattle.push_model.specs.declared.ids.Uaid.{Uaid}
 use Rattle.push_model.specs.declared.reply.Reply.{Reply}
 use Rattle.push_model.specs.Cells.{Cell, empty_cell, is_there}
 use Rattle.push_model.specs.Outcomes.{Outcome}
-use Rattle.push_model.specs.Kinds.{costs_memory}
 use Rattle.push_model.specs.Worlds.{World, cell_at, found_or_empty, put_beside, with_cell, on_cell, settled}
 use Rattle.push_model.specs.Steps.{Action, OnUser, OnFlight, OnShard, Does, Costs}
 use Rattle.push_model.proofs.Entries.{rem_same}

@@ -1,21 +1,9 @@
 -- Searches and sums over the values of a map's entries.
-use Rattle.std.proofs.Common.{◌≡◌, ℕ, ◌+◌, Bool, true, false, cond, List, [], ◌∷◌, refl, ap, ◌∙◌}
-use Rattle.std.specs.Prelude.{Option, Some, Result, Ok, Err, IfOk, OnErr, find, fold, sum_by, count_by, ◌||◌}
-use Rattle.std.specs.Option.{option_map}
+use Rattle.std.proofs.Common.{◌≡◌, ℕ, ◌+◌, Bool, true, false, cond, Bor, List, [], ◌∷◌, refl, ap, ◌∙◌}
+use Rattle.std.specs.Prelude.{Option, Some, None, is_some, Result, Ok, Err, IfOk, OnErr, find, fold, sum_by, count_by, ◌||◌}
+use Rattle.std.specs.Option.{option_copied, option_map}
 use Rattle.std.specs.List.{list_any}
 use Rattle.std.specs.Map.{set_value, remove_entry, values_of}
-
-find_cons : {X : Type 0} (b : Bool) (e : ℕ × X) (o : Option X) (q : Option (ℕ × X)) → o ≡ option_map (λ d. d.1) q → cond b (Some e.1) o ≡ option_map (λ d. d.1) (cond b (Some e) q)
-find_cons true e o q h = refl
-find_cons false e o q h = h
-
-pub find-values : {X : Type 0} (p : X → Bool) (es : List (ℕ × X)) → find p (values_of es) ≡ option_map (λ d. d.1) (find (λ e. p e.1) es)
-find-values p [] = refl
-find-values p (e ∷ es) = find_cons (p e.1) e (find p (values_of es)) (find (λ d. p d.1) es) (find-values p es)
-
-pub any-values : {X : Type 0} (p : X → Bool) (es : List (ℕ × X)) → list_any p (values_of es) ≡ list_any (λ e. p e.1) es
-any-values p [] = refl
-any-values p (e ∷ es) = ap (λ b. p e.1 || b) (any-values p es)
 
 fold-values : {X : Type 0} (f : X → ℕ) (z : ℕ) (es : List (ℕ × X)) → fold (λ a x. a + f x) z (values_of es) ≡ fold (λ a e. a + f e.1) z es
 fold-values f z [] = refl
@@ -51,3 +39,24 @@ err_map (Err e) f p = f p
 pub ok_map : {T E : Type 0} {P Q : T → Type 0} (r : Result T E) → ((x : T) → P x → Q x) → IfOk r P → IfOk r Q
 ok_map (Ok x) f p = f x p
 ok_map (Err e) f p = tt
+
+-- a look-up that gives nothing
+pub copied_none : {X : Type 0} (r : Option (Bor X)) → is_some r ≡ false → option_copied r ≡ None
+copied_none None e = refl
+copied_none (Some x) e = absurd (cc e)
+
+-- and one that gives something
+pub copied_some : {X : Type 0} (r : Option (Bor X)) (o : Option (ℕ × X)) → option_copied r ≡ option_map (λ e. e.1) o → is_some r ≡ is_some o
+copied_some None None e = refl
+copied_some None (Some y) e = absurd (cc e)
+copied_some (Some x) None e = absurd (cc e)
+copied_some (Some x) (Some y) e = refl
+
+any_by : {X : Type 0} (b : Bool) (x : X) (l : Bool) (o : Option X) → l ≡ is_some o → (b || l) ≡ is_some (cond b (Some x) o)
+any_by true x l o e = refl
+any_by false x l o e = e
+
+-- some element passes where one is found
+pub any_found : {X : Type 0} (p : X → Bool) (xs : List X) → list_any p xs ≡ is_some (find p xs)
+any_found p [] = refl
+any_found p (x ∷ xs) = any_by (p x) x (list_any p xs) (find p xs) (any_found p xs)

@@ -2,4 +2,5 @@ pub mod Counting
 pub mod Made
 pub mod Dues
 pub mod Shards
+pub mod Owners
 pub mod Listing

@@ -1,9 +1,6 @@
 //! Searches and counts over the cells of a shard.
-ghost use Rattle.std.specs.Prelude.{◌≡◌, ◌++◌, find, sum_by, IfOk, OnOk};
-ghost use Rattle.std.specs.Option.{option_copied};
-ghost use Rattle.std.specs.List.{list_any};
+ghost use Rattle.std.specs.Prelude.{◌≡◌, ◌++◌, sum_by, IfOk, OnOk};
 ghost use Rattle.std.specs.Map.{values_of};
-ghost use Rattle.push_model.specs.Cells.{is_token, is_flight, channels_of};
 ghost use Rattle.push_model.specs.NodeSteps.{killed, held_on, orphaned_on};
 ghost use Rattle.push_model.specs.ShardSteps.{is_orphaned, is_idle, route_of};
 ghost use Rattle.push_model.specs.Tallies.{capped};
@@ -11,31 +8,10 @@ ghost use Rattle.push_model.specs.Worlds.{each};
 ghost use Rattle.shard_core.specs.Counting.{counted, counts_of};
 ghost use Rattle.shard_core.specs.Listing.{first_listed};
 
-use push_model::{Counts, Moment, NoMemory, NodeId, Op, Token, Users};
+use push_model::{Counts, Moment, NoMemory, NodeId, Users};
 use std::alloc::Global;
 use std::collections::BTreeMap;
 use user_cell::UserCell;
-
-/// Whether some user has a channel with that token.
-pub fn any_has_token(cells: &BTreeMap<u128, UserCell>, token: &Token) -> bool
-    ensures { result ≡ list_any (λ c. list_any (is_token token.now) (channels_of c.user)) (values_of cells.now.entries) }
-{
-    cells.values().any(|cell| cell.has_token(token))
-}
-
-/// The first cell whose user has a channel with that token.
-pub fn find_token<'a>(cells: &'a BTreeMap<u128, UserCell>, token: &Token) -> Option<&'a UserCell>
-    ensures { option_copied result ≡ find (λ c. list_any (is_token token.now) (channels_of c.user)) (values_of cells.now.entries) }
-{
-    cells.values().find(|cell| cell.has_token(token))
-}
-
-/// The first cell that has that flight.
-pub fn find_flight(cells: &BTreeMap<u128, UserCell>, op: Op) -> Option<&UserCell>
-    ensures { option_copied result ≡ find (λ c. list_any (is_flight op) c.flights) (values_of cells.now.entries) }
-{
-    cells.values().find(|cell| cell.has_flight(op))
-}
 
 /// The numbers of a report over all the cells.
 pub fn count_cells(cells: &BTreeMap<u128, UserCell>) -> Counts

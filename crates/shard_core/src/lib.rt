@@ -3,8 +3,11 @@
 
 mod cells;
 mod dues;
+mod flight_owners;
 mod places;
 mod shard;
 mod state;
+mod token_owners;
+mod token_steps;
 
 pub use shard::Shard;

@@ -3,6 +3,7 @@ ghost use Rattle.std.specs.Prelude.{◌≡◌, ◌≤◌, ◌^◌, true, IfOk, O
 ghost use Rattle.push_model.specs.Kinds.{takes_memory, costs_memory};
 ghost use Rattle.push_model.specs.Worlds.{start};
 ghost use Rattle.push_model.specs.Steps.{step};
+ghost use Rattle.push_model.specs.Reached.{IsReached};
 ghost use Rattle.push_model.specs.Caring.{is_cared};
 ghost use Rattle.push_model.specs.ShardSteps.{counts};
 
@@ -62,6 +63,13 @@ impl Shard {
         ensures { result ≡ self.now.tally }
     {
         self.state.tally()
+    }
+
+    /// A law: a legal history from an empty shard leads to its world, whatever its steps were.
+    pub fn is_reached(&self)
+        ensures { IsReached self.now }
+    {
+        let _state = &self.state;
     }
 
     /// How many stored rows a routed session wasn't sent, and nothing covers; from 2^64 - 1 on it says that.

@@ -1,9 +1,10 @@
 //! What a shard keeps, and each step on it.
-ghost use Rattle.std.specs.Prelude.{◌≡◌, ◌<◌, ◌≤◌, ◌+◌, ◌^◌, true, None, find, IfOk, OnErr};
+ghost use Rattle.std.specs.Prelude.{◌≡◌, ◌<◌, ◌≤◌, ◌+◌, ◌^◌, ◌&&◌, true, None, find, IfOk, OnErr};
 ghost use Rattle.std.specs.Map.{lookup};
 ghost use Rattle.std.specs.Ordering.{nat_cmp};
 ghost use Rattle.std.specs.BTreeMap.{is_at};
 ghost use Rattle.std.specs.Option.{option_map, option_copied};
+ghost use Rattle.push_model.specs.declared.ids.Uaid.{Uaid as UaidValue};
 ghost use Rattle.push_model.specs.declared.step.Step.TheVariants.{Attach, Register, Begin};
 ghost use Rattle.push_model.specs.Kinds.{takes_memory, costs_memory};
 ghost use Rattle.push_model.specs.Cells.{Cell, empty_cell};
@@ -14,14 +15,15 @@ ghost use Rattle.push_model.specs.ShardSteps.{counts, tick, kill, up, list_orpha
 ghost use Rattle.push_model.specs.Steps.{action, made, step, IsOnCell};
 ghost use Rattle.push_model.specs.Reached.{IsReached};
 ghost use Rattle.shard_core.specs.Shards.{IsNoBegin, HasUser};
+ghost use Rattle.shard_core.specs.Owners.{BringsFree};
 ghost use Rattle.shard_core.specs.Made.{DoesAt, CostsAt, DoesOnFlight, CostsOnFlight};
 
-use crate::cells::{
-    any_has_token, count_cells, find_flight, find_token, held_on, idle_users, kill_cells,
-    orphaned_on, orphaned_users,
-};
+use crate::cells::{count_cells, held_on, idle_users, kill_cells, orphaned_on, orphaned_users};
 use crate::dues::{NEVER, earlier, later, soonest_at, soonest_of, tick_cells};
-use crate::places::{begin_at, step_at};
+use crate::flight_owners::{FlightOwners, flight_cell, forget_flight};
+use crate::places::begin_owned;
+use crate::token_owners::{TokenOwners, token_cell};
+use crate::token_steps::{lacks, step_owned};
 use push_model::{
     Actor, Ask, ChannelId, Counts, Message, Moment, MsgId, NoMemory, NodeId, Op, Reply, SessionId,
     Step, Tally, Token, Uaid,
@@ -41,6 +43,10 @@ pub(crate) struct State {
     cells: BTreeMap<u128, UserCell>,
     // at no moment in seconds below it is a row due
     soonest: u64,
+    // names the user of each flight
+    flights: FlightOwners,
+    // and of each token
+    tokens: TokenOwners,
     tally: Tally,
 }
 
@@ -48,12 +54,13 @@ impl Model for State {
     ghost use Rattle.std.specs.Prelude.{◌≤◌, ◌^◌};
     ghost use Rattle.push_model.specs.Worlds.{World};
     ghost use Rattle.shard_core.specs.Dues.{NoneDueIn};
+    ghost use Rattle.shard_core.specs.Owners.{has_flight, flight_owner, holds, token_owner, IsComplete};
 
     ghost Value = { World };
 
     ghost view = { λ s. record { shard = s.number; clock = s.clock; next = s.next; down = s.down; cells = s.cells.entries; tally = s.tally } };
 
-    ghost invariant = { λ s. (s.next ≤ 2 ^ 63) × NoneDueIn s.soonest s.cells.entries };
+    ghost invariant = { λ s. (s.next ≤ 2 ^ 63) × NoneDueIn s.soonest s.cells.entries × IsComplete has_flight (flight_owner s.flights.entries) s.cells.entries × IsComplete holds (token_owner s.tokens.entries) s.cells.entries };
 }
 
 /// Past the last message number.
@@ -72,6 +79,8 @@ impl State {
             down: [false; 8],
             cells: BTreeMap::new(alloc),
             soonest: NEVER,
+            flights: BTreeMap::new(alloc),
+            tokens: BTreeMap::new(alloc),
             tally: Tally::new(),
         }
     }
@@ -156,11 +165,13 @@ impl State {
 
     // makes a step on the cell of that user
     fn on_cell(&mut self, alloc: Global, uaid: Uaid, asked: &Step) -> Result<Reply, NoMemory>
-        requires { IsOnCell (action self.old.clock asked.now) }
+        requires kind { IsOnCell (action self.old.clock asked.now) }
+        requires free { BringsFree asked.now uaid self.old.cells }
         ensures ok { IfOk result (λ reply. DoesAt (action self.old.clock asked.now) uaid self.old self.new reply) }
         ensures err { OnErr result ((self.new ≡ self.old) × (takes_memory asked.now ≡ true) × CostsAt (action self.old.clock asked.now) uaid self.old) }
     {
-        let reply = step_at(&mut self.cells, alloc, self.clock, uaid, asked)?;
+        let tokens = &mut self.tokens;
+        let reply = step_owned(&mut self.cells, tokens, alloc, self.clock, uaid, asked)?;
         self.soonest = earlier(self.soonest, soonest_at(&self.cells, uaid));
         Ok(reply)
     }
@@ -184,16 +195,22 @@ impl State {
     fn lacks(&self, s: &SessionId, chid: ChannelId) -> bool
         ensures { result ≡ lacks s.now chid (cell_at self.now.cells s.now.uaid) }
     {
-        match self.cells.get(&s.uaid.0) {
-            Some(cell) => cell.lacks(*s, chid),
-            None => false,
-        }
+        lacks(&self.cells, s.uaid, s, chid)
     }
 
     fn knows_token(&self, token: &Token) -> bool
+        requires { IsReached self.now }
         ensures { result ≡ is_token_known token.now self.now }
     {
-        any_has_token(&self.cells, token)
+        self.token_cell(token).is_some()
+    }
+
+    // whether another channel has the token of the channel that the session's user lacks
+    fn is_taken(&self, s: &SessionId, chid: ChannelId, token: &Token) -> bool
+        requires { IsReached self.now }
+        ensures { result ≡ (lacks s.now chid (cell_at self.now.cells s.now.uaid) && is_token_known token.now self.now) }
+    {
+        self.lacks(s, chid) && self.knows_token(token)
     }
 
     fn register(
@@ -203,30 +220,42 @@ impl State {
         chid: ChannelId,
         token: &Token,
     ) -> Result<Reply, NoMemory>
+        requires { IsReached self.old }
         ensures ok { IfOk result (λ reply. made self.old (Register s.now chid token.now) ≡ (self.new, reply)) }
         ensures err { OnErr result ((self.new ≡ self.old) × (costs_memory (made self.old (Register s.now chid token.now)).1 ≡ true)) }
     {
-        if self.lacks(s, chid) && self.knows_token(token) {
+        if self.is_taken(s, chid, token) {
             return Ok(Reply::TokenTaken);
         }
         self.on_cell(alloc, s.uaid, &Step::Register(*s, chid, *token))
     }
 
     fn flight_cell(&self, op: Op) -> Option<&UserCell>
+        requires { IsReached self.now }
         ensures { option_copied result ≡ option_map (λ e. e.1) (find (has_flight_in op) self.now.cells) }
     {
-        find_flight(&self.cells, op)
+        flight_cell(&self.cells, &self.flights, op)
     }
 
     fn token_cell(&self, token: &Token) -> Option<&UserCell>
+        requires { IsReached self.now }
         ensures { option_copied result ≡ option_map (λ e. e.1) (find (has_token_in token.now) self.now.cells) }
     {
-        find_token(&self.cells, token)
+        token_cell(&self.cells, &self.tokens, token)
+    }
+
+    // takes the flight out of the index, if it has ended
+    fn forget_flight(&mut self, op: Op)
+        ensures { self.new ≡ self.old }
+    {
+        forget_flight(&self.cells, &mut self.flights, op);
     }
 
     // makes a step on the cell that has the flight
     fn on_flight(&mut self, alloc: Global, op: Op, asked: &Step) -> Result<Reply, NoMemory>
-        requires { IsOnCell (action self.old.clock asked.now) }
+        requires reached { IsReached self.old }
+        requires kind { IsOnCell (action self.old.clock asked.now) }
+        requires free { (u : UaidValue) → BringsFree asked.now u self.old.cells }
         ensures ok { IfOk result (λ reply. DoesOnFlight (action self.old.clock asked.now) op self.old self.new reply) }
         ensures err { OnErr result ((self.new ≡ self.old) × (takes_memory asked.now ≡ true) × CostsOnFlight (action self.old.clock asked.now) op self.old) }
     {
@@ -234,7 +263,9 @@ impl State {
             return Ok(Reply::NoFlight);
         };
         let uaid = cell.uaid();
-        self.on_cell(alloc, uaid, asked)
+        let reply = self.on_cell(alloc, uaid, asked)?;
+        self.forget_flight(op);
+        Ok(reply)
     }
 
     fn begin(&mut self, alloc: Global, op: Op, token: Token, ask: Ask) -> Result<Reply, NoMemory>
@@ -270,6 +301,7 @@ impl State {
     ) -> Result<Reply, NoMemory>
         requires number { self.old.next < 2 ^ 63 }
         requires there { HasUser (lookup (is_at (nat_cmp uaid.0)) self.old.cells) }
+        requires free { find (has_flight_in op) self.old.cells ≡ None }
         ensures ok { IfOk result (λ reply. on_cell (record self.old { next = self.old.next + 1 }) uaid (begin op token (record { id = record { shard = self.old.shard; number = self.old.next }; uaid = uaid; chid = chid; ask = ask; accepted = self.old.clock })) ≡ (self.new, reply)) }
         ensures err { OnErr result ((self.new ≡ self.old) × (costs_memory (on_cell (record self.old { next = self.old.next + 1 }) uaid (begin op token (record { id = record { shard = self.old.shard; number = self.old.next }; uaid = uaid; chid = chid; ask = ask; accepted = self.old.clock }))).1 ≡ true)) }
     {
@@ -283,7 +315,8 @@ impl State {
             ask,
             accepted: self.clock,
         };
-        let reply = begin_at(&mut self.cells, alloc, uaid, op, token, message)?;
+        let flights = &mut self.flights;
+        let reply = begin_owned(&mut self.cells, flights, alloc, uaid, op, token, message)?;
         self.next += 1;
         Ok(reply)
     }

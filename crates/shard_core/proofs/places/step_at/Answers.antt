@@ -1,7 +1,7 @@
-use Rattle.std.proofs.Common.{◌≡◌, ℕ, true, false, ◌∙◌, List, ap, sym, subst}
+use Rattle.std.proofs.Common.{◌≡◌, true, false, ◌∙◌, ap, sym, subst}
 use Rattle.std.specs.Prelude.{Some, is_some}
 use Rattle.std.proofs.lemmas.Map.Steps.{set_value_same}
-use Rattle.push_model.specs.Cells.{Cell, is_there}
+use Rattle.push_model.specs.Cells.{is_there}
 use Rattle.push_model.specs.Steps.{action, Does, Costs}
 use Rattle.shard_core.proofs.Puts.{cell_found, puts_set, puts_gone}
 use Rattle.shard_core.proofs.Values.{on_err}

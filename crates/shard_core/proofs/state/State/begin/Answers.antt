@@ -1,4 +1,3 @@
-use Rattle.std.proofs.Common.{sym, ap, ◌∙◌}
 use Rattle.shard_core.proofs.Begun.{token_there}
 use Rattle.shard_core.proofs.state.State.begin.Goals as goal
 

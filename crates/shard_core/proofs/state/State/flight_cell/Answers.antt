@@ -1,8 +1,11 @@
-use Rattle.std.proofs.Common.{◌∙◌}
-use Rattle.std.specs.List.{list_any}
-use Rattle.push_model.specs.Cells.{is_flight}
-use Rattle.shard_core.proofs.Values.{find-values}
+use Rattle.std.proofs.Common.{refl, sym, subst, ◌∙◌}
+use Rattle.push_model.specs.Reached.{IsReached}
+use Rattle.shard_core.specs.Owners.{has_flight, flight_owner}
+use Rattle.shard_core.proofs.Owners.{owned_first}
 use Rattle.shard_core.proofs.state.State.flight_cell.Goals as goal
 
 pub returns : goal.returns
-returns c = rw (← c.self.view_is) (c.find_flight.ensures ∙ find-values (λ x. list_any (is_flight c.args.op) x.flights) c.self.inside.cells.entries)
+returns c =
+    let s = c.self.inside in
+    rw (← c.self.view_is)
+    (c.flight_cell.ensures ∙ owned_first has_flight (flight_owner s.flights.entries) c.args.op _ s.cells.entries refl (subst IsReached (sym c.self.view_is) c.requires) c.self.invariant.2)

@@ -1,11 +1,14 @@
-use Rattle.std.proofs.Common.{◌≡◌, ◌-◌, ℕ, Bool, true, List, slice_set, ap, sym, subst, ◌∙◌}
-use Rattle.push_model.specs.Cells.{Cell}
+use Rattle.std.proofs.Common.{◌-◌, true, slice_set, refl, ap, sym, subst, ◌∙◌}
+use Rattle.std.specs.List.{list_any}
+use Rattle.push_model.specs.Cells.{is_token}
 use Rattle.push_model.specs.Tallies.{capped}
 use Rattle.push_model.specs.NodeSteps.{killed, held_on, orphaned_on}
-use Rattle.push_model.specs.Worlds.{World, each}
 use Rattle.push_model.specs.declared.reply.Reply.TheVariants.{Killed}
 use Rattle.shard_core.specs.Dues.{NoneDueIn}
+use Rattle.shard_core.specs.Owners.{IsComplete, has_flight, flight_owner, holds, token_owner}
+use Rattle.push_model.proofs.Narrow.{killed_names}
 use Rattle.shard_core.proofs.DueCells.{due_each, due_killed}
+use Rattle.shard_core.proofs.Owners.{complete_each}
 use Rattle.shard_core.proofs.Values.{sum_by-values}
 use Rattle.shard_core.proofs.state.State.kill.Goals as goal
 
@@ -26,7 +29,11 @@ returns c =
 pub invariant_of-self : goal.invariant_of-self
 invariant_of-self c =
     let s = c.self.inside in
-    let n = c.args.node in (
+    let n = c.args.node in
+    let owner = flight_owner s.flights.entries in
+    let tokens = token_owner s.tokens.entries in (
       c.self.invariant.0,
       subst (NoneDueIn s.soonest) (sym c.kill_cells.ensures) (due_each (killed n) s.soonest s.cells.entries (λ d h. due_killed n s.soonest d h) c.self.invariant.1),
+      subst (IsComplete has_flight owner) (sym c.kill_cells.ensures) (complete_each has_flight owner (killed n) s.cells.entries (λ k d. refl) c.self.invariant.2),
+      subst (IsComplete holds tokens) (sym c.kill_cells.ensures) (complete_each holds tokens (killed n) s.cells.entries (λ k d. ap (list_any (is_token k)) (killed_names n d).channels) c.self.invariant.3),
     )

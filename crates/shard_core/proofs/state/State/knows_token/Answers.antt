@@ -1,8 +1,11 @@
-use Rattle.std.proofs.Common.{◌∙◌}
-use Rattle.std.specs.List.{list_any}
-use Rattle.push_model.specs.Cells.{is_token, channels_of}
-use Rattle.shard_core.proofs.Values.{any-values}
+use Rattle.std.proofs.Common.{sym, ◌∙◌}
+use Rattle.std.specs.Prelude.{find}
+use Rattle.push_model.specs.Worlds.{has_token_in}
+use Rattle.shard_core.proofs.Values.{any_found, copied_some}
 use Rattle.shard_core.proofs.state.State.knows_token.Goals as goal
 
 pub returns : goal.returns
-returns c = rw (← c.self.view_is) (c.any_has_token.ensures ∙ any-values (λ x. list_any (is_token c.args.token.now) (channels_of x.user)) c.self.inside.cells.entries)
+returns c =
+    let test = has_token_in c.args.token.now in
+    let es = c.args.self.now.cells in
+    c.is_some.ensures ∙ copied_some c.token_cell.result (find test es) c.token_cell.ensures ∙ sym (any_found test es)

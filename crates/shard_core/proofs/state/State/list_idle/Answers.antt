@@ -1,4 +1,4 @@
-use Rattle.std.proofs.Common.{◌≡◌, ap, sym, ◌∙◌}
+use Rattle.std.proofs.Common.{ap, sym, ◌∙◌}
 use Rattle.push_model.specs.declared.reply.Reply.TheVariants.{Users}
 use Rattle.push_model.specs.Worlds.{World}
 use Rattle.push_model.specs.ShardSteps.{is_idle}

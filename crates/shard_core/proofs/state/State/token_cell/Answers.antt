@@ -1,8 +1,11 @@
-use Rattle.std.proofs.Common.{◌∙◌}
-use Rattle.std.specs.List.{list_any}
-use Rattle.push_model.specs.Cells.{is_token, channels_of}
-use Rattle.shard_core.proofs.Values.{find-values}
+use Rattle.std.proofs.Common.{refl, sym, subst, ◌∙◌}
+use Rattle.push_model.specs.Reached.{IsReached}
+use Rattle.shard_core.specs.Owners.{holds, token_owner}
+use Rattle.shard_core.proofs.Owners.{owned_first}
 use Rattle.shard_core.proofs.state.State.token_cell.Goals as goal
 
 pub returns : goal.returns
-returns c = rw (← c.self.view_is) (c.find_token.ensures ∙ find-values (λ x. list_any (is_token c.args.token.now) (channels_of x.user)) c.self.inside.cells.entries)
+returns c =
+    let s = c.self.inside in
+    rw (← c.self.view_is)
+    (c.token_cell.ensures ∙ owned_first holds (token_owner s.tokens.entries) c.args.token.now _ s.cells.entries refl (subst IsReached (sym c.self.view_is) c.requires) c.self.invariant.3)
