@@ -3,6 +3,7 @@
 
 mod laws;
 mod pins;
+mod shards;
 
 pub use laws::{
     histories_keep_the_headline, no_row_waits, reached_worlds_are_sound, steps_make_legal_histories,
@@ -11,3 +12,4 @@ pub use pins::{
     headlines_refuse, unsound_actors_are_refused, unsound_rows_are_refused,
     unsound_worlds_are_refused,
 };
+pub use shards::waiting;
