@@ -1,19 +1,14 @@
-//! The command `autopush`: it makes the real streams, makes the top call, and ends with its status.
+//! The command `autopush`: it makes the real streams, starts, and ends with the status that this answers.
 #![tactic(auto)]
 
-ghost use Rattle.std.specs.Prelude.{◌≡◌, IfOk, drop};
+ghost use Rattle.std.specs.Prelude.{◌≡◌, IfOk, IfErr, IsOk, IsErr, MatchResult, drop};
 ghost use Rattle.std.specs.Vec.Iter.{into_iter_items};
 
-use autopush_main::autopush_replay;
+use autopush_main::{WordsFault, start};
 use push_outside::{Reading, Writing};
 use std::alloc::{AllocError, Global};
 use std::process::ExitCode;
 use std::{env, io};
-
-/// The words aren't a command line.
-const WRONG_WORDS: u8 = 2;
-/// Memory ran out.
-const NO_MEMORY: u8 = 7;
 
 // the words after the program's name
 fn words_of(alloc: Global, mut all: env::Args) -> Result<Vec<String>, AllocError>
@@ -27,19 +22,30 @@ fn words_of(alloc: Global, mut all: env::Args) -> Result<Vec<String>, AllocError
     Ok(words)
 }
 
-fn main(rt: HostRuntime) -> ExitCode {
-    let alloc = rt.alloc();
-    let all = match env::args(&rt) {
+// the same of what the system gave
+fn words_given(alloc: Global, given: io::Result<env::Args>) -> Result<Vec<String>, WordsFault>
+    ensures words { MatchResult given (λ all. IfOk result (λ words. words.items ≡ drop 1 (into_iter_items all))) (λ _. IsErr result) }
+    ensures memory { IsOk given → IfErr result (λ fault. fault ≡ WordsFault.NoMemory) }
+{
+    let all = match given {
         Ok(all) => all,
         Err(error) if error.kind() == io::ErrorKind::OutOfMemory => {
-            return ExitCode::from(NO_MEMORY);
+            return Err(WordsFault::NoMemory);
         }
-        Err(_) => return ExitCode::from(WRONG_WORDS),
+        Err(_) => return Err(WordsFault::NotText),
     };
-    let Ok(words) = words_of(alloc, all) else {
-        return ExitCode::from(NO_MEMORY);
-    };
+    match words_of(alloc, all) {
+        Ok(words) => Ok(words),
+        Err(_) => Err(WordsFault::NoMemory),
+    }
+}
+
+fn main(rt: HostRuntime) -> ExitCode {
+    let alloc = rt.alloc();
+    let words = words_given(alloc, env::args(&rt));
     let mut input = Reading::new(rt.reader());
     let mut output = Writing::new(io::writer(&rt));
-    ExitCode::from(autopush_replay(alloc, &words, &mut input, &mut output))
+    let mut messages = Writing::new(rt.stderr());
+    let ending = start(alloc, &words, &mut input, &mut output, &mut messages);
+    ExitCode::from(ending.status)
 }

@@ -17,9 +17,11 @@ use Rattle.schedule_text.specs.Replies.{reply_line, SaysNoneWaits}
 use Rattle.autopush_main.specs.Lines.{NoLf, Moves}
 use Rattle.autopush_main.specs.Known.{AppendsFront}
 use Rattle.autopush_main.specs.Replay.{beginning, AreLines, IsRefused, IsTaken, lines_of, text, world_of, SaysForReport, ReportsSay, KeepsHeadline, refusal, ended, IsRefusedBehind, IsWholeLine, IsLastLine, IsDone, IsRefusal, IsBroken, IsCut}
-use Rattle.autopush_main.specs.Turns.{NotTaken, RefusesFirst, Advances, Finishes, Refuses, CutsStep, CutsFirst, Turns, Replays}
-use Rattle.autopush_main.specs.declared.turn.End.{End}
-use Rattle.autopush_main.specs.declared.turn.End.TheVariants as ends
+use Rattle.autopush_main.specs.Refusals.{IsWhy, IsWhyBehind, IsRefusalOf}
+use Rattle.autopush_main.specs.Turns.{NotTaken, FirstIs, RefusesFirst, Advances, Finishes, Refuses, RefusesAs, CutsStep, CutsFirst, Turns, Replays}
+use Rattle.autopush_main.specs.declared.endings.Refusal.{Refusal}
+use Rattle.autopush_main.specs.declared.endings.End.{End}
+use Rattle.autopush_main.specs.declared.endings.End.TheVariants as ends
 use Rattle.autopush_main.proofs.Flow.{Consumes-then, Appends-then, Appends-kept, Appends-none}
 use Rattle.autopush_main.proofs.LineLaws.{lines_of-line}
 
@@ -156,6 +158,23 @@ refused_from law before now after pending count world held written more le p r =
       headline = law p.steps;
     }
 
+-- why the line behind those of the steps is refused
+why_behind : (r : Refusal) (before now : Option (List ℕ)) (pending : List ℕ) (count : ℕ) (world : World) (held written : Option (List ℕ))
+    → (p : Progress before now pending count world held written) → FirstIs (λ line. IsWhy r.cause line count) now pending → IsWhyBehind r.cause before p.steps
+why_behind r before now pending count world held written p why =
+    from_now before now (ended p.steps ++ pending) _ _ p.input why (λ left q.
+    (q.0, q.1, ap lines_of (append_assoc (ended p.steps) pending left) ∙ lines_of-ended p.steps (pending ++ left) p.taken ∙ ap (λ (ls : List (List ℕ)). map spell p.steps ++ ls) q.2, subst (λ (n : ℕ). IsWhy r.cause q.0 n) (sym p.counted) q.3))
+
+refusal_from : Law → (r : Refusal) (before now after : Option (List ℕ)) (pending : List ℕ) (count : ℕ) (world : World) (held written more : Option (List ℕ))
+    → count ≤ 1000000 → Progress before now pending count world held written → RefusesAs r now after pending count written more → IsRefusalOf r before after held more
+unfolding refused_from
+refusal_from law r before now after pending count world held written more le p a =
+    record {
+      answered = refused_from law before now after pending count world held written more le p a.refuses;
+      number = a.number ∙ ap (λ (n : ℕ). n + 1) (sym p.counted);
+      cause = why_behind r before now pending count world held written p a.cause;
+    }
+
 pub broken_from : Law → (before now after : Option (List ℕ)) (pending rest : List ℕ) (count : ℕ) (world : World) (held written more : Option (List ℕ))
     → count ≤ 1000000 → Progress before now pending count world held written → Moves now after pending rest → NoLf rest → Keeps written more → IsBroken before after held more
 broken_from law before now after pending rest count world held written more le p m no_lf k =
@@ -239,9 +258,9 @@ cut_by law status before now after pending read count old new held written more 
 pub ends_so : Law → (end : End) (before now after : Option (List ℕ)) (pending rest : List ℕ) (count : ℕ) (old new : World) (held written more : Option (List ℕ))
     → count ≤ 1000000 → Progress before now pending count old held written → Turns (Some end) now after pending rest count old new written more → Replays end before after held more
 ends_so law ends.Done before now after pending rest count old new held written more le p t = done_from law before now after pending count old held written more p t
-ends_so law ends.Refused before now after pending rest count old new held written more le p t = refused_from law before now after pending count old held written more le p t
-ends_so law ends.ReadFault before now after pending rest count old new held written more le p t = broken_from law before now after pending rest count old held written more le p t.0 t.1 t.2
-ends_so law ends.WriteFault before now after pending rest count old new held written more le p t = cut_by law 6 before now after pending t.read count old new held written more le p t.input t.how
+ends_so law (ends.Refused r) before now after pending rest count old new held written more le p t = refusal_from law r before now after pending count old held written more le p t
+ends_so law (ends.ReadFault f) before now after pending rest count old new held written more le p t = broken_from law before now after pending rest count old held written more le p t.0 t.1 t.2
+ends_so law (ends.WriteFault f) before now after pending rest count old new held written more le p t = cut_by law 6 before now after pending t.read count old new held written more le p t.input t.how
 ends_so law ends.NoMemory before now after pending rest count old new held written more le p t = cut_by law 7 before now after pending t.read count old new held written more le p t.input t.how
 
 -- ---- the headline of each replay

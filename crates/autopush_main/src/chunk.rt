@@ -2,6 +2,7 @@
 ghost use Rattle.std.specs.Prelude.{◌<◌, length};
 ghost use Rattle.autopush_main.specs.Chunks.{ReadsChunk, ReadsBy};
 
+use crate::endings::Fault;
 use crate::lulls::LULLS;
 use push_outside::{Got, Source};
 
@@ -13,7 +14,7 @@ pub enum Chunk {
     /// The input has ended.
     End,
     /// The source failed, or had nothing too often.
-    Lost,
+    Lost(Fault),
 }
 
 /// Reads once, and again while there is nothing now, at most 1,000,000,000 times in a row.
@@ -27,8 +28,8 @@ pub fn read_chunk<I: Source>(source: &mut I, room: &mut [u8]) -> Chunk
             Got::Bytes(count) => return Chunk::Bytes(count),
             Got::End => return Chunk::End,
             Got::NotYet => {}
-            Got::Failed => return Chunk::Lost,
+            Got::Failed => return Chunk::Lost(Fault::Failed),
         }
     }
-    Chunk::Lost
+    Chunk::Lost(Fault::Waited)
 }

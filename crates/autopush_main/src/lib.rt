@@ -2,11 +2,17 @@
 #![tactic(auto)]
 
 mod chunk;
+mod command;
+mod endings;
 mod lulls;
 mod pending;
 mod put;
 mod run;
+mod tell;
 mod top;
 mod turn;
 
+pub use command::{Ending, start};
+pub use endings::{Cause, End, Ended, Fault, Refusal, WordsFault};
+pub use put::Written;
 pub use top::autopush_replay;

@@ -3,6 +3,7 @@ ghost use Rattle.std.specs.Prelude.{◌≡◌, ◌≤◌, ◌<◌, ◌+◌, ◌+
 ghost use Rattle.autopush_main.specs.Lines.{NoLf, is_lf, Found, FoundBy, Fills};
 
 use crate::chunk::{Chunk, read_chunk};
+use crate::endings::Fault;
 use push_model::NoMemory;
 use push_outside::Source;
 use std::alloc::Global;
@@ -100,7 +101,7 @@ pub enum Next {
     /// A line over the limit.
     TooLong,
     /// The source failed, or had nothing too often.
-    Lost,
+    Lost(Fault),
     /// Memory ran out.
     NoMemory,
 }
@@ -136,7 +137,7 @@ pub fn next_line<I: Source>(source: &mut I, pending: &mut Pending) -> Next
                 }
             }
             Chunk::End => return Next::End,
-            Chunk::Lost => return Next::Lost,
+            Chunk::Lost(fault) => return Next::Lost(fault),
         }
     }
     unreachable!()

@@ -2,16 +2,17 @@
 ghost use Rattle.std.specs.Prelude.{◌<◌, length};
 ghost use Rattle.autopush_main.specs.Puts.{WritesPiece, WritesBy, WritesAll, WrittenBy};
 
+use crate::endings::Fault;
 use crate::lulls::LULLS;
 use push_outside::{Put, Sink};
 
 /// What writing did.
-#[derive(Clone, Copy, Debug)]
+#[derive(Clone, Copy, Debug, PartialEq, Eq)]
 pub enum Written {
     /// All was taken.
     All,
     /// The sink failed, or took nothing too often.
-    Lost,
+    Lost(Fault),
     /// Memory ran out.
     NoMemory,
 }
@@ -20,7 +21,7 @@ pub enum Written {
 #[derive(Clone, Copy, Debug)]
 enum Piece {
     Wrote(usize),
-    Lost,
+    Lost(Fault),
     NoMemory,
 }
 
@@ -34,11 +35,11 @@ fn put_piece<K: Sink>(sink: &mut K, piece: &[u8]) -> Piece
         match sink.write(piece) {
             Put::Wrote(count) => return Piece::Wrote(count),
             Put::NotYet => {}
-            Put::Failed => return Piece::Lost,
+            Put::Failed => return Piece::Lost(Fault::Failed),
             Put::NoMemory => return Piece::NoMemory,
         }
     }
-    Piece::Lost
+    Piece::Lost(Fault::Waited)
 }
 
 /// Writes all of the bytes, or a front of them where it breaks off.
@@ -50,7 +51,7 @@ pub fn put_all<K: Sink>(sink: &mut K, bytes: &[u8]) -> Written
     while at < bytes.len() {
         match put_piece(sink, &bytes[at..]) {
             Piece::Wrote(count) => at += count,
-            Piece::Lost => return Written::Lost,
+            Piece::Lost(fault) => return Written::Lost(fault),
             Piece::NoMemory => return Written::NoMemory,
         }
     }

@@ -1,8 +1,9 @@
 //! A whole replay, line by line.
 ghost use Rattle.autopush_main.specs.Turns.{Replays, BlamesSourceEnd, BlamesSink};
 
+use crate::endings::End;
 use crate::pending::Pending;
-use crate::turn::{End, LINES, turn};
+use crate::turn::{LINES, turn};
 use push_laws::steps_make_legal_histories;
 use push_outside::{Sink, Source};
 use schedule_text::laws::reports_say_that_none_waits;

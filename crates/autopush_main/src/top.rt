@@ -4,9 +4,10 @@ ghost use Rattle.std.specs.List.{list_any};
 ghost use Rattle.std.specs.Io.KnownBytes.{Keeps};
 ghost use Rattle.autopush_main.specs.Known.{NoFault, HasCause};
 ghost use Rattle.autopush_main.specs.Replay.{IsDone, IsRefusal, IsBroken, IsCut};
+ghost use Rattle.autopush_main.specs.Endings.{OfWords, Ends, NotBegun, BlamesInput, BlamesOutput};
 
+use crate::endings::{End, Ended};
 use crate::run::run;
-use crate::turn::End;
 use push_outside::{Sink, Source};
 use std::alloc::Global;
 
@@ -17,6 +18,26 @@ fn is_replay(words: &[String]) -> bool
         [word] => word.as_str() == "replay",
         _ => false,
     }
+}
+
+/// The same as `autopush_replay`, and says how it ended, from which the status follows.
+pub fn replay<I: Source, K: Sink>(
+    alloc: Global,
+    words: &[String],
+    input: &mut I,
+    output: &mut K,
+) -> Ended
+    ensures words { OfWords result (map string_bytes words.now) }
+    ensures ends { Ends result (I.left input.old) (I.left input.new) (K.written output.old) (K.written output.new) }
+    ensures same_source { NotBegun result → input.new ≡ input.old }
+    ensures same_sink { NotBegun result → output.new ≡ output.old }
+    ensures source { BlamesInput result (I.faults input.old) (I.faults input.new) (I.lulls input.old) (I.lulls input.new) }
+    ensures sink { BlamesOutput result (K.faults output.old) (K.faults output.new) (K.lulls output.old) (K.lulls output.new) }
+{
+    if !is_replay(words) {
+        return Ended::WrongWords;
+    }
+    Ended::Replayed(run(alloc, input, output))
 }
 
 /// Replays a schedule: reads its lines from the input, makes the step of each on a shard from its start, and writes the
@@ -69,14 +90,13 @@ pub fn autopush_replay<I: Source, K: Sink>(
     ensures source_faults { I.faults input.old ≤ I.faults input.new }
     ensures sink_faults { K.faults output.old ≤ K.faults output.new }
 {
-    if !is_replay(words) {
-        return 2;
-    }
-    match run(alloc, input, output) {
-        End::Done => 0,
-        End::Refused => 4,
-        End::ReadFault => 5,
-        End::WriteFault => 6,
-        End::NoMemory => 7,
+    match replay(alloc, words, input, output) {
+        Ended::WrongWords => 2,
+        Ended::NoWords => 7,
+        Ended::Replayed(End::Done) => 0,
+        Ended::Replayed(End::Refused(_)) => 4,
+        Ended::Replayed(End::ReadFault(_)) => 5,
+        Ended::Replayed(End::WriteFault(_)) => 6,
+        Ended::Replayed(End::NoMemory) => 7,
     }
 }

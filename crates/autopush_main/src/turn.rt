@@ -1,41 +1,26 @@
 //! One line of a schedule: it is read, its step is made, and its reply is written.
-ghost use Rattle.std.specs.Prelude.{◌≡◌, ◌≤◌, ◌+◌, IfOk, string_bytes};
+ghost use Rattle.std.specs.Prelude.{◌≡◌, ℕ, ◌≤◌, ◌<◌, ◌+◌, List, IfOk, length, string_bytes};
 ghost use Rattle.autopush_main.specs.Replay.{refusal};
+ghost use Rattle.autopush_main.specs.Refusals.{IsWhy};
 ghost use Rattle.autopush_main.specs.Turns.{Answers, DoesLine, DoesLast, Turns, Blames, BlamesSink, BlamesSource, RefusesBy};
 
-use crate::pending::{LINE, Next, Pending, next_line};
+use crate::endings::{Cause, End, Refusal};
+use crate::pending::{Next, Pending, next_line};
 use crate::put::{Written, put_all};
 use push_model::{NoMemory, Text};
 use push_outside::{Sink, Source};
-use schedule_text::{LineFault, print_reply, read_line};
+use schedule_text::{LineFault, print_reply, read_line, what_is_wrong};
 use shard_core::Shard;
 use std::alloc::Global;
 
 /// The most lines of a schedule.
 pub const LINES: u32 = 1_000_000;
 
-/// How a replay ends.
-#[derive(Clone, Copy, Debug)]
-pub enum End {
-    /// The input ended, and each line was answered.
-    Done,
-    /// A line was refused.
-    Refused,
-    /// Reading failed, or gave nothing too often.
-    ReadFault,
-    /// Writing failed, or took nothing too often.
-    WriteFault,
-    /// Memory ran out.
-    NoMemory,
-}
-
 // Makes the step of the line, and gives the line of its reply.
 fn answer(alloc: Global, shard: &mut Shard, line: &[u8]) -> Result<Text, LineFault>
+    requires { length line.now ≤ 16384 }
     ensures { Answers result line.now shard.old shard.new }
 {
-    if line.len() > LINE {
-        return Err(LineFault::Outside);
-    }
     let step = read_line(alloc, line)?;
     let Ok(reply) = shard.step(alloc, step) else {
         return Err(LineFault::NoMemory);
@@ -55,18 +40,33 @@ fn refusal_text(alloc: Global, number: u32) -> Result<String, NoMemory>
     }
 }
 
-// Names the refused line, which stands behind so many others.
-fn refuse<K: Sink>(alloc: Global, output: &mut K, count: u32) -> End
+// Why a line over the limit is refused that stands behind so many others.
+fn why_long(count: u32) -> Cause
     requires { count ≤ 1000000 }
-    ensures written { RefusesBy result count (K.written output.old) (K.written output.new) }
+    ensures { (line : List ℕ) → 16384 < length line → IsWhy result line count }
+{
+    if count < LINES {
+        Cause::TooLong
+    } else {
+        Cause::TooMany
+    }
+}
+
+// Names the refused line, which stands behind so many others.
+fn refuse<K: Sink>(alloc: Global, output: &mut K, count: u32, why: Cause) -> End
+    requires { count ≤ 1000000 }
+    ensures written { RefusesBy result why count (K.written output.old) (K.written output.new) }
     ensures cause { BlamesSink result (K.faults output.old) (K.faults output.new) (K.lulls output.old) (K.lulls output.new) }
 {
     let Ok(text) = refusal_text(alloc, count + 1) else {
         return End::NoMemory;
     };
     match put_all(output, text.as_bytes()) {
-        Written::All => End::Refused,
-        Written::Lost => End::WriteFault,
+        Written::All => End::Refused(Refusal {
+            line: count + 1,
+            cause: why,
+        }),
+        Written::Lost(fault) => End::WriteFault(fault),
         Written::NoMemory => End::NoMemory,
     }
 }
@@ -79,20 +79,24 @@ fn do_line<K: Sink>(
     line: &[u8],
     count: u32,
 ) -> Option<End>
-    requires { count ≤ 1000000 }
+    requires count { count ≤ 1000000 }
+    requires short { length line.now ≤ 16384 }
     ensures done { DoesLine result line.now count shard.old shard.new (K.written output.old) (K.written output.new) }
     ensures cause { Blames result (K.faults output.old) (K.faults output.new) (K.lulls output.old) (K.lulls output.new) }
 {
     if count == LINES {
-        return Some(refuse(alloc, output, count));
+        return Some(refuse(alloc, output, count, Cause::TooMany));
     }
     match answer(alloc, shard, line) {
         Ok(text) => match put_all(output, text.as_str().as_bytes()) {
             Written::All => None,
-            Written::Lost => Some(End::WriteFault),
+            Written::Lost(fault) => Some(End::WriteFault(fault)),
             Written::NoMemory => Some(End::NoMemory),
         },
-        Err(LineFault::Outside) => Some(refuse(alloc, output, count)),
+        Err(LineFault::Outside) => {
+            let why = Cause::NoStep(what_is_wrong(line));
+            Some(refuse(alloc, output, count, why))
+        }
         Err(LineFault::NoMemory) => Some(End::NoMemory),
     }
 }
@@ -105,7 +109,8 @@ fn finish<K: Sink>(
     line: &[u8],
     count: u32,
 ) -> Option<End>
-    requires { count ≤ 1000000 }
+    requires count { count ≤ 1000000 }
+    requires short { length line.now ≤ 16384 }
     ensures done { DoesLast result line.now count shard.old shard.new (K.written output.old) (K.written output.new) }
     ensures cause { Blames result (K.faults output.old) (K.faults output.new) (K.lulls output.old) (K.lulls output.new) }
 {
@@ -139,8 +144,8 @@ pub fn turn<I: Source, K: Sink>(
             end
         }
         Next::End => finish(alloc, shard, output, pending.bytes(), count),
-        Next::TooLong => Some(refuse(alloc, output, count)),
-        Next::Lost => Some(End::ReadFault),
+        Next::TooLong => Some(refuse(alloc, output, count, why_long(count))),
+        Next::Lost(fault) => Some(End::ReadFault(fault)),
         Next::NoMemory => Some(End::NoMemory),
     }
 }

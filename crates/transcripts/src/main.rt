@@ -4,7 +4,7 @@
 
 mod transcript;
 
-use autopush_main::autopush_replay;
+use autopush_main::{WordsFault, start};
 use push_outside::{SureSink, SureSource};
 use std::alloc::{AllocError, Global};
 use std::process::ExitCode;
@@ -20,10 +20,13 @@ fn replay(alloc: Global, transcript: &Transcript) -> Result<Outcome, AllocError>
     words.push(String::from_str(alloc, "replay")?)?;
     let mut input = SureSource::new(Vec::from_slice(alloc, transcript.sent.as_str().as_bytes())?);
     let mut output = SureSink::new(alloc);
-    let status = autopush_replay(alloc, &words, &mut input, &mut output);
+    let mut messages = SureSink::new(alloc);
+    let words: Result<Vec<String>, WordsFault> = Ok(words);
+    let ending = start(alloc, &words, &mut input, &mut output, &mut messages);
     Ok(Outcome {
-        status,
+        status: ending.status,
         written: Vec::from_slice(alloc, output.bytes())?,
+        said: Vec::from_slice(alloc, messages.bytes())?,
     })
 }
 
@@ -35,7 +38,8 @@ fn is_so(rt: &HostRuntime, name: &str, transcript: &Transcript) -> io::Result<bo
     if !so {
         let status = outcome.status;
         let written = String::from_utf8_lossy(alloc, &outcome.written)?;
-        println!(rt; "otherwise: {name}\n{written}= {status}")?;
+        let said = String::from_utf8_lossy(alloc, &outcome.said)?;
+        println!(rt; "otherwise: {name}\n{written}{said}= {status}")?;
     }
     Ok(so)
 }

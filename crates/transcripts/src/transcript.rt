@@ -11,6 +11,8 @@ pub struct Transcript {
     pub sent: String,
     /// All that is to be written.
     pub written: String,
+    /// All that is to be said on standard error.
+    pub said: String,
     /// The status that is to come.
     pub status: u8,
 }
@@ -22,24 +24,28 @@ pub struct Outcome {
     pub status: u8,
     /// All that was written.
     pub written: Vec<u8>,
+    /// All that was said on standard error.
+    pub said: Vec<u8>,
 }
 
 impl Transcript {
-    /// Nothing is sent, nothing is to be written, and the status is to be 0.
+    /// Nothing is sent, nothing is to be written or said, and the status is to be 0.
     pub fn new(alloc: Global) -> Transcript {
         Transcript {
             sent: String::new(alloc),
             written: String::new(alloc),
+            said: String::new(alloc),
             status: 0,
         }
     }
 
     /// Whether the outcome is what is written down.
     pub fn came_out(&self, outcome: &Outcome) -> bool
-        ensures { IsTrue result ↔ ((outcome.now.status ≡ self.now.status) × (outcome.now.written.items ≡ string_bytes self.now.written)) }
+        ensures { IsTrue result ↔ ((outcome.now.status ≡ self.now.status) × (outcome.now.written.items ≡ string_bytes self.now.written) × (outcome.now.said.items ≡ string_bytes self.now.said)) }
     {
         outcome.status == self.status
             && outcome.written.as_slice() == self.written.as_str().as_bytes()
+            && outcome.said.as_slice() == self.said.as_str().as_bytes()
     }
 
     // The same once more.
@@ -47,6 +53,7 @@ impl Transcript {
         Ok(Transcript {
             sent: String::from_str(alloc, self.sent.as_str())?,
             written: String::from_str(alloc, self.written.as_str())?,
+            said: String::from_str(alloc, self.said.as_str())?,
             status: self.status,
         })
     }
@@ -61,6 +68,9 @@ impl Transcript {
         } else if let Some(written) = line.strip_prefix("> ") {
             self.written.push_str(written)?;
             self.written.push('\n')?;
+        } else if let Some(said) = line.strip_prefix("! ") {
+            self.said.push_str(said)?;
+            self.said.push('\n')?;
         } else if let Some(status) = line.strip_prefix("= ") {
             self.status = status
                 .parse()
@@ -73,7 +83,8 @@ impl Transcript {
 }
 
 /// Reads a transcript behind the one that opens it: `< LINE` is a line that is sent, `<. LINE` one that is sent without
-/// its end, `> LINE` a line that is written, and `= STATUS` the status, which is 0 where none is named.
+/// its end, `> LINE` a line that is written, `! LINE` one that is said on standard error, and `= STATUS` the status, which
+/// is 0 where none is named.
 pub fn read_transcript(alloc: Global, opening: &Transcript, block: &str) -> io::Result<Transcript> {
     let mut transcript = opening.copy(alloc)?;
     for line in block.lines() {

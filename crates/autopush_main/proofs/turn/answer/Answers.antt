@@ -14,7 +14,7 @@ returns-in_default-print_reply c =
       reply_line (step c.args.shard.now made).1,
       record {
         made = made;
-        is_line = record { spelled = line.0; range = line.1; short = c.if-line-gt-LINE.false };
+        is_line = record { spelled = line.0; range = line.1; short = c.requires };
         moved = ap (λ (p : World × Reply). p.0) (sym c.in-Ok.ensures.ok);
         replied = refl;
       },
