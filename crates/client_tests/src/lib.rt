@@ -1,0 +1,7 @@
+//! Tests of the client's side: the texts of its protocol both ways.
+#![tactic(auto)]
+
+#[cfg(test)]
+mod clients;
+#[cfg(test)]
+mod servers;
