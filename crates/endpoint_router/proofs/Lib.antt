@@ -1,0 +1,9 @@
+pub mod OwnLemmas
+pub mod ReplyLemmas
+pub mod WentLemmas
+pub mod NudgeLemmas
+pub mod StoreLemmas
+pub mod GiveLemmas
+pub mod RouteLemmas
+pub mod CauseLemmas
+pub mod RouteCauses

@@ -1,0 +1,4 @@
+pub mod Links
+pub mod Posts
+pub mod Routes
+pub mod Failing
