@@ -1,0 +1,10 @@
+mod ChatLemmas
+mod RunLemmas
+mod TurnLemmas
+mod DrawLemmas
+mod StepLemmas
+mod HelloLemmas
+mod GoesLemmas
+mod AnswerLemmas
+mod RegisterLemmas
+mod SaveLemmas

@@ -1,0 +1,12 @@
+pub mod Ends
+pub mod Shards
+pub mod Chats
+pub mod Runs
+pub mod Asked
+pub mod Turns
+pub mod Hellos
+pub mod Begins
+pub mod Registers
+pub mod Answers
+pub mod Shuts
+pub mod Saves

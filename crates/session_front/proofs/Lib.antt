@@ -1,0 +1,2 @@
+mod PumpLemmas
+mod ServeLemmas
