@@ -1,0 +1,5 @@
+use Rattle.push_exchange.proofs.Seen.{kept_after}
+use Rattle.push_exchange.proofs.board.ShardBoard.alone.Goals as goal
+
+pub returns-clause-kept : goal.returns-clause-kept
+returns-clause-kept c = kept_after c.pass.inside.pass c.alone.new.pass c.args.pass.now c.pass.view_is c.alone.ensures.pass.0.3 c.alone.new.pass.sound c.requires.opened

@@ -1,0 +1,4 @@
+pub mod PassViews
+pub mod Boards
+pub mod Rounds
+pub mod Sums

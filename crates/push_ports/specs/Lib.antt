@@ -1,0 +1,4 @@
+pub mod Offers
+pub mod Accepts
+pub mod FormValues
+pub mod ListForms
