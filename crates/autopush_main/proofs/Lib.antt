@@ -1,6 +1,6 @@
-mod Flow
-mod Causes
+pub mod Flow
+pub mod Causes
 mod LfLaws
-mod LineLaws
+pub mod LineLaws
 mod TurnLaws
 mod Progress

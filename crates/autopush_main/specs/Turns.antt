@@ -29,11 +29,11 @@ pub record Steps (line reply : List ℕ) (old new : World) : Type 0 where
   pub moved : new ≡ (step old made).0
   pub replied : reply ≡ reply_line (step old made).1
 
--- at want of memory the step was made or wasn't
-abbrev pub Answers : Result (List ℕ) LineFault → List ℕ → World → World → Type 0
-Answers (Ok reply) line old new = Steps line reply old new
-Answers (Err Outside) line old new = (new ≡ old) × IsRefused line
-Answers (Err NoMemory) line old new = (new ≡ old) ⊎ ((reply : List ℕ) × Steps line reply old new)
+-- this is the text of the reply to the line; at want of memory the step was made or wasn't
+abbrev pub Answers : Result (Unit {0}) LineFault → List ℕ → World → World → List ℕ → Type 0
+Answers (Ok _) line old new reply = Steps line reply old new
+Answers (Err Outside) line old new reply = (new ≡ old) × IsRefused line
+Answers (Err NoMemory) line old new reply = (new ≡ old) ⊎ ((told : List ℕ) × Steps line told old new)
 
 -- the reply to the line was written
 pub record Writes (line : List ℕ) (old new : World) (held now : Option (List ℕ)) : Type 0 where

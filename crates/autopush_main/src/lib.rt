@@ -12,7 +12,8 @@ mod tell;
 mod top;
 mod turn;
 
+pub use chunk::{Chunk, read_chunk};
 pub use command::{Ending, start};
 pub use endings::{Cause, End, Ended, Fault, Refusal, WordsFault};
-pub use put::Written;
+pub use put::{Written, put_all};
 pub use top::autopush_replay;

@@ -1,6 +1,6 @@
 //! The lines of a source, one after the other.
-ghost use Rattle.std.specs.Prelude.{◌≡◌, ◌≤◌, ◌<◌, ◌+◌, ◌++◌, ◌∷◌, [], length, take, drop, OnOk, OnErr, MatchOption, position};
-ghost use Rattle.autopush_main.specs.Lines.{NoLf, is_lf, Found, FoundBy, Fills};
+ghost use Rattle.std.specs.Prelude.{◌≡◌, ◌≤◌, ◌<◌, ◌+◌, ◌++◌, ◌∷◌, [], length, take, drop, OnOk, OnErr, MatchOption, position, vec_len};
+ghost use Rattle.autopush_main.specs.Lines.{NoLf, is_lf, Found, FoundBy, Fills, Adds, AddsBy};
 
 use crate::chunk::{Chunk, read_chunk};
 use crate::endings::Fault;
@@ -8,6 +8,19 @@ use push_model::NoMemory;
 use push_outside::Source;
 use std::alloc::Global;
 use std::marker::Model;
+
+// Takes so many bytes out at the front. Where there are none to take, none is moved.
+fn drop_front(held: &mut Vec<u8>, count: usize)
+    requires { count ≤ vec_len held.old }
+    ensures { held.new.items ≡ drop count held.old.items }
+{
+    if count == 0 {
+        return;
+    }
+    let rest = held.len() - count;
+    held.copy_within(count.., 0);
+    held.truncate(rest);
+}
 
 /// Bytes that were read and are still to be answered, seen as a list.
 #[derive(Drop)]
@@ -49,7 +62,7 @@ impl Pending {
         ensures ok { OnOk result (self.new ≡ self.old ++ more.now) }
         ensures err { OnErr result (self.new ≡ self.old) }
     {
-        self.held.drain(..self.start);
+        drop_front(&mut self.held, self.start);
         self.start = 0;
         match self.held.extend_from_slice(more) {
             Ok(()) => Ok(()),
@@ -112,6 +125,36 @@ pub const LINE: usize = 16384;
 /// The bytes of one read.
 const CHUNK: usize = 16384;
 
+/// What one read added.
+#[derive(Clone, Copy, Debug)]
+enum More {
+    /// At least one byte.
+    Some,
+    /// Nothing, since the input has ended.
+    End,
+    /// Nothing, since the source failed, or had nothing too often.
+    Lost(Fault),
+    /// Nothing, since memory ran out for what was read.
+    NoMemory,
+}
+
+// Reads once, and adds what was read. It stands apart, since its room is paid for wherever it is called.
+#[inline(never)]
+fn read_more<I: Source>(source: &mut I, pending: &mut Pending) -> More
+    ensures input { Adds result (I.left source.old) (I.left source.new) pending.old pending.new }
+    ensures cause { AddsBy result (I.faults source.old) (I.faults source.new) (I.lulls source.old) (I.lulls source.new) }
+{
+    let mut room = [0; CHUNK];
+    match read_chunk(source, &mut room) {
+        Chunk::Bytes(count) => match pending.push(&room[..count]) {
+            Ok(()) => More::Some,
+            Err(NoMemory) => More::NoMemory,
+        },
+        Chunk::End => More::End,
+        Chunk::Lost(fault) => More::Lost(fault),
+    }
+}
+
 /// Reads until the front of the input is known: a line and its LF, its rest without one, or more bytes than a line has.
 pub fn next_line<I: Source>(source: &mut I, pending: &mut Pending) -> Next
     ensures input { Fills result (I.left source.old) (I.left source.new) pending.old pending.new }
@@ -129,15 +172,11 @@ pub fn next_line<I: Source>(source: &mut I, pending: &mut Pending) -> Next
         if scanned > LINE {
             return Next::TooLong;
         }
-        let mut room = [0; CHUNK];
-        match read_chunk(source, &mut room) {
-            Chunk::Bytes(count) => {
-                if pending.push(&room[..count]).is_err() {
-                    return Next::NoMemory;
-                }
-            }
-            Chunk::End => return Next::End,
-            Chunk::Lost(fault) => return Next::Lost(fault),
+        match read_more(source, pending) {
+            More::Some => {}
+            More::End => return Next::End,
+            More::Lost(fault) => return Next::Lost(fault),
+            More::NoMemory => return Next::NoMemory,
         }
     }
     unreachable!()

@@ -6,6 +6,7 @@ use crate::pending::Pending;
 use crate::turn::{LINES, turn};
 use push_laws::steps_make_legal_histories;
 use push_outside::{Sink, Source};
+use schedule_text::ReplyLine;
 use schedule_text::laws::reports_say_that_none_waits;
 use shard_core::Shard;
 use std::alloc::Global;
@@ -20,8 +21,18 @@ pub fn run<I: Source, K: Sink>(alloc: Global, input: &mut I, output: &mut K) -> 
     reports_say_that_none_waits();
     let mut shard = Shard::start(alloc, 0);
     let mut pending = Pending::new(alloc);
+    let mut reply = ReplyLine::new(alloc);
     for count in 0..=LINES {
-        if let Some(end) = turn(alloc, &mut shard, input, output, &mut pending, count) {
+        let turned = turn(
+            alloc,
+            &mut shard,
+            input,
+            output,
+            &mut pending,
+            &mut reply,
+            count,
+        );
+        if let Some(end) = turned {
             return end;
         }
     }

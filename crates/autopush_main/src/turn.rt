@@ -1,5 +1,7 @@
 //! One line of a schedule: it is read, its step is made, and its reply is written.
-ghost use Rattle.std.specs.Prelude.{◌≡◌, ℕ, ◌≤◌, ◌<◌, ◌+◌, List, IfOk, length, string_bytes};
+ghost use Rattle.std.specs.Prelude.{◌≡◌, ℕ, ◌≤◌, ◌<◌, ◌+◌, ◌⊎◌, List, IfOk, OnOk, OnErr, length, string_bytes};
+ghost use Rattle.push_model.specs.Steps.{step};
+ghost use Rattle.schedule_text.specs.Replies.{reply_line};
 ghost use Rattle.autopush_main.specs.Replay.{refusal};
 ghost use Rattle.autopush_main.specs.Refusals.{IsWhy};
 ghost use Rattle.autopush_main.specs.Turns.{Answers, DoesLine, DoesLast, Turns, Blames, BlamesSink, BlamesSource, RefusesBy};
@@ -7,28 +9,46 @@ ghost use Rattle.autopush_main.specs.Turns.{Answers, DoesLine, DoesLast, Turns, 
 use crate::endings::{Cause, End, Refusal};
 use crate::pending::{Next, Pending, next_line};
 use crate::put::{Written, put_all};
-use push_model::{NoMemory, Text};
+use push_model::{NoMemory, Step};
 use push_outside::{Sink, Source};
-use schedule_text::{LineFault, print_reply, read_line, what_is_wrong};
+use schedule_text::{LineFault, ReplyLine, read_line, what_is_wrong};
 use shard_core::Shard;
 use std::alloc::Global;
 
 /// The most lines of a schedule.
 pub const LINES: u32 = 1_000_000;
 
-// Makes the step of the line, and gives the line of its reply.
-fn answer(alloc: Global, shard: &mut Shard, line: &[u8]) -> Result<Text, LineFault>
+// Makes the step, and prints the line of its reply.
+fn make(
+    alloc: Global,
+    shard: &mut Shard,
+    asked: Step,
+    reply: &mut ReplyLine,
+) -> Result<(), NoMemory>
+    ensures ok { OnOk result ((shard.new ≡ (step shard.old asked).0) × (reply.new ≡ reply_line (step shard.old asked).1)) }
+    ensures err { OnErr result ((shard.new ≡ shard.old) ⊎ (shard.new ≡ (step shard.old asked).0)) }
+{
+    match &shard.step(alloc, asked) {
+        Ok(made) => reply.print(alloc, made),
+        Err(NoMemory) => Err(NoMemory),
+    }
+}
+
+// Makes the step of the line, and prints the line of its reply.
+fn answer(
+    alloc: Global,
+    shard: &mut Shard,
+    line: &[u8],
+    reply: &mut ReplyLine,
+) -> Result<(), LineFault>
     requires { length line.now ≤ 16384 }
-    ensures { Answers result line.now shard.old shard.new }
+    ensures { Answers result line.now shard.old shard.new reply.new }
 {
     let step = read_line(alloc, line)?;
-    let Ok(reply) = shard.step(alloc, step) else {
-        return Err(LineFault::NoMemory);
-    };
-    let Ok(text) = print_reply(alloc, &reply) else {
-        return Err(LineFault::NoMemory);
-    };
-    Ok(text)
+    match make(alloc, shard, step, reply) {
+        Ok(()) => Ok(()),
+        Err(NoMemory) => Err(LineFault::NoMemory),
+    }
 }
 
 fn refusal_text(alloc: Global, number: u32) -> Result<String, NoMemory>
@@ -77,6 +97,7 @@ fn do_line<K: Sink>(
     shard: &mut Shard,
     output: &mut K,
     line: &[u8],
+    reply: &mut ReplyLine,
     count: u32,
 ) -> Option<End>
     requires count { count ≤ 1000000 }
@@ -87,8 +108,8 @@ fn do_line<K: Sink>(
     if count == LINES {
         return Some(refuse(alloc, output, count, Cause::TooMany));
     }
-    match answer(alloc, shard, line) {
-        Ok(text) => match put_all(output, text.as_str().as_bytes()) {
+    match answer(alloc, shard, line, reply) {
+        Ok(()) => match put_all(output, reply.bytes()) {
             Written::All => None,
             Written::Lost(fault) => Some(End::WriteFault(fault)),
             Written::NoMemory => Some(End::NoMemory),
@@ -107,6 +128,7 @@ fn finish<K: Sink>(
     shard: &mut Shard,
     output: &mut K,
     line: &[u8],
+    reply: &mut ReplyLine,
     count: u32,
 ) -> Option<End>
     requires count { count ≤ 1000000 }
@@ -117,7 +139,7 @@ fn finish<K: Sink>(
     if line.is_empty() {
         return Some(End::Done);
     }
-    match do_line(alloc, shard, output, line, count) {
+    match do_line(alloc, shard, output, line, reply, count) {
         None => Some(End::Done),
         end => end,
     }
@@ -130,6 +152,7 @@ pub fn turn<I: Source, K: Sink>(
     input: &mut I,
     output: &mut K,
     pending: &mut Pending,
+    reply: &mut ReplyLine,
     count: u32,
 ) -> Option<End>
     requires { count ≤ 1000000 }
@@ -139,11 +162,12 @@ pub fn turn<I: Source, K: Sink>(
 {
     match next_line(input, pending) {
         Next::Line(n) => {
-            let end = do_line(alloc, shard, output, &pending.bytes()[..n], count);
+            let line = &pending.bytes()[..n];
+            let end = do_line(alloc, shard, output, line, reply, count);
             pending.skip(n + 1);
             end
         }
-        Next::End => finish(alloc, shard, output, pending.bytes(), count),
+        Next::End => finish(alloc, shard, output, pending.bytes(), reply, count),
         Next::TooLong => Some(refuse(alloc, output, count, why_long(count))),
         Next::Lost(fault) => Some(End::ReadFault(fault)),
         Next::NoMemory => Some(End::NoMemory),

@@ -75,22 +75,28 @@ pub fn read_flight_line(verb: &[u8], words: Words) -> Option<Step>
     ensures { result ≡ by_verb flight_verbs verb.now words.entry }
 {
     if verb == b"direct".as_slice() {
-        direct(words)
-    } else if verb == b"store".as_slice() {
-        store(words)
-    } else if verb == b"giveup".as_slice() {
-        give_up(words)
-    } else if verb == b"reread".as_slice() {
-        reread(words)
-    } else if verb == b"nudge".as_slice() {
-        nudge(words)
-    } else if verb == b"heard".as_slice() {
-        heard(words)
-    } else if verb == b"lost".as_slice() {
-        lost(words)
-    } else if verb == b"clear".as_slice() {
-        clear(words)
-    } else {
-        read_shard_line(verb, words)
+        return direct(words);
     }
+    if verb == b"store".as_slice() {
+        return store(words);
+    }
+    if verb == b"giveup".as_slice() {
+        return give_up(words);
+    }
+    if verb == b"reread".as_slice() {
+        return reread(words);
+    }
+    if verb == b"nudge".as_slice() {
+        return nudge(words);
+    }
+    if verb == b"heard".as_slice() {
+        return heard(words);
+    }
+    if verb == b"lost".as_slice() {
+        return lost(words);
+    }
+    if verb == b"clear".as_slice() {
+        return clear(words);
+    }
+    read_shard_line(verb, words)
 }

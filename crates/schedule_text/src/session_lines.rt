@@ -128,34 +128,46 @@ pub fn read_session_line(verb: &[u8], words: Words) -> Option<Step>
     ensures { result ≡ by_verb session_verbs verb.now words.entry }
 {
     if verb == b"create".as_slice() {
-        create(words)
-    } else if verb == b"claim".as_slice() {
-        claim(words)
-    } else if verb == b"attach".as_slice() {
-        attach(words)
-    } else if verb == b"check".as_slice() {
-        check(words)
-    } else if verb == b"topics".as_slice() {
-        topics(words)
-    } else if verb == b"plains".as_slice() {
-        plains(words)
-    } else if verb == b"take".as_slice() {
-        take(words)
-    } else if verb == b"renew".as_slice() {
-        renew(words)
-    } else if verb == b"close".as_slice() {
-        close(words)
-    } else if verb == b"release".as_slice() {
-        release(words)
-    } else if verb == b"save".as_slice() {
-        save(words)
-    } else if verb == b"register".as_slice() {
-        register(words)
-    } else if verb == b"unregister".as_slice() {
-        unregister(words)
-    } else if verb == b"ack".as_slice() {
-        ack(words)
-    } else {
-        read_flight_line(verb, words)
+        return create(words);
     }
+    if verb == b"claim".as_slice() {
+        return claim(words);
+    }
+    if verb == b"attach".as_slice() {
+        return attach(words);
+    }
+    if verb == b"check".as_slice() {
+        return check(words);
+    }
+    if verb == b"topics".as_slice() {
+        return topics(words);
+    }
+    if verb == b"plains".as_slice() {
+        return plains(words);
+    }
+    if verb == b"take".as_slice() {
+        return take(words);
+    }
+    if verb == b"renew".as_slice() {
+        return renew(words);
+    }
+    if verb == b"close".as_slice() {
+        return close(words);
+    }
+    if verb == b"release".as_slice() {
+        return release(words);
+    }
+    if verb == b"save".as_slice() {
+        return save(words);
+    }
+    if verb == b"register".as_slice() {
+        return register(words);
+    }
+    if verb == b"unregister".as_slice() {
+        return unregister(words);
+    }
+    if verb == b"ack".as_slice() {
+        return ack(words);
+    }
+    read_flight_line(verb, words)
 }

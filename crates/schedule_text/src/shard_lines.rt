@@ -80,24 +80,31 @@ pub fn read_shard_line(verb: &[u8], words: Words) -> Option<Step>
     ensures { result ≡ by_verb shard_verbs verb.now words.entry }
 {
     if verb == b"tick".as_slice() {
-        tick(words)
-    } else if verb == b"notif".as_slice() {
-        notif(words)
-    } else if verb == b"kill".as_slice() {
-        kill(words)
-    } else if verb == b"up".as_slice() {
-        up(words)
-    } else if verb == b"expire".as_slice() {
-        expire(words)
-    } else if verb == b"drop".as_slice() {
-        drop_user(words)
-    } else if verb == b"orphans".as_slice() {
-        orphans(words)
-    } else if verb == b"idle".as_slice() {
-        idle(words)
-    } else if verb == b"report".as_slice() {
-        report(words)
-    } else {
-        None
+        return tick(words);
     }
+    if verb == b"notif".as_slice() {
+        return notif(words);
+    }
+    if verb == b"kill".as_slice() {
+        return kill(words);
+    }
+    if verb == b"up".as_slice() {
+        return up(words);
+    }
+    if verb == b"expire".as_slice() {
+        return expire(words);
+    }
+    if verb == b"drop".as_slice() {
+        return drop_user(words);
+    }
+    if verb == b"orphans".as_slice() {
+        return orphans(words);
+    }
+    if verb == b"idle".as_slice() {
+        return idle(words);
+    }
+    if verb == b"report".as_slice() {
+        return report(words);
+    }
+    None
 }

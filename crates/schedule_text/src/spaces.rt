@@ -29,6 +29,7 @@ fn past_blocks(bytes: &[u8]) -> usize
 }
 
 /// How many bytes stand before the first space, or in all.
+#[inline(never)]
 pub fn word_length(bytes: &[u8]) -> usize
     ensures value { result ≡ position_or_len is_space bytes.now }
     ensures within { result ≤ length bytes.now }

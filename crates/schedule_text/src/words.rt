@@ -13,6 +13,7 @@ use std::marker::Model;
 const LAST: u64 = (1 << 63) - 1;
 
 /// The bytes up to the first space, and those from it on.
+#[inline(always)]
 pub fn cut(bytes: &[u8]) -> (&[u8], &[u8])
     ensures front { result.0.now ≡ first_word bytes.now }
     ensures back { result.1.now ≡ after_word bytes.now }
@@ -63,6 +64,7 @@ impl<'a> Words<'a> {
         }
     }
 
+    #[inline(always)]
     #[tactic(auto, unfolding(crate::specs::Reading::word_at))]
     fn word(&mut self) -> Option<&'a [u8]>
         ensures { Takes (λ w. w.now) result (word_at self.old) self.new }

@@ -251,7 +251,7 @@ impl State {
         forget_flight(&self.cells, &mut self.flights, op);
     }
 
-    // makes a step on the cell that has the flight
+    // makes a step on the cell that has the flight, which leaves the index with the reply that says that it ended
     fn on_flight(&mut self, alloc: Global, op: Op, asked: &Step) -> Result<Reply, NoMemory>
         requires reached { IsReached self.old }
         requires kind { IsOnCell (action self.old.clock asked.now) }
@@ -264,7 +264,9 @@ impl State {
         };
         let uaid = cell.uaid();
         let reply = self.on_cell(alloc, uaid, asked)?;
-        self.forget_flight(op);
+        if matches!(reply, Reply::End(_)) {
+            self.forget_flight(op);
+        }
         Ok(reply)
     }
 
