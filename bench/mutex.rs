@@ -1,38 +1,74 @@
-//! The work of `crates/board_bench` in plain Rust: a sum under a lock, to which threads add. Its arguments are how many
-//! threads add, which may be 0, 1, 2 or 4, and how often each does; 0 threads add to a bare sum. It prints the sum.
+//! The work of `crates/board_bench` in plain Rust: users in ordered maps, each map under a lock, asked whether a session of
+//! theirs is due. Its arguments are those of that program; 0 callers ask one bare map. It prints how many weren't due.
+use std::collections::BTreeMap;
 use std::hint::black_box;
 use std::sync::Mutex;
 use std::thread;
 
-fn add_often(sum: &Mutex<u64>, calls: u64) {
-    for _ in 0..calls {
-        let mut sum = sum.lock().unwrap();
-        let before = *sum;
-        *sum = before.wrapping_add(1);
-        black_box(before);
+struct Session {
+    node: u8,
+    at: u64,
+    displaced: bool,
+    check: bool,
+    fetching: bool,
+    sent: Vec<(u128, u64)>,
+}
+
+#[derive(Default)]
+struct Shard {
+    users: BTreeMap<u128, Vec<Session>>,
+    answered: u64,
+}
+
+impl Shard {
+    fn open(&mut self, uaid: u128, node: u8) {
+        let session = Session { node, at: 1, displaced: false, check: false, fetching: true, sent: Vec::new() };
+        self.users.entry(uaid).or_default().push(session);
+    }
+
+    fn is_due(&mut self, uaid: u128, node: u8, at: u64) -> Option<bool> {
+        self.answered += 1;
+        let sessions = self.users.get_mut(&uaid)?;
+        let session = sessions.iter_mut().find(|s| s.node == node && s.at == at && !s.displaced)?;
+        let due = session.check && !session.fetching && session.sent.is_empty();
+        if due {
+            session.check = false;
+            session.fetching = true;
+        }
+        Some(due)
     }
 }
 
-fn main() {
-    let mut words = std::env::args().skip(1);
-    let threads: u64 = words.next().unwrap().parse().unwrap();
-    let calls: u64 = words.next().unwrap().parse().unwrap();
-    let sum = Mutex::new(0);
-    match threads {
-        0 => {
-            let mut bare: u64 = 0;
-            for _ in 0..calls {
-                bare = black_box(bare).wrapping_add(1);
-            }
-            println!("{bare}");
-            return;
-        }
-        1 => add_often(&sum, calls),
-        _ => thread::scope(|scope| {
-            for _ in 0..threads {
-                scope.spawn(|| add_often(&sum, calls));
-            }
-        }),
+fn serve(shards: &[Mutex<Shard>], caller: u8, rounds: u64) -> u64 {
+    for shard in shards {
+        shard.lock().unwrap().open(caller.into(), caller);
     }
-    println!("{}", sum.lock().unwrap());
+    let mut answered = 0;
+    for _ in 0..rounds {
+        for shard in shards {
+            let uaid = black_box(u128::from(caller));
+            answered += u64::from(shard.lock().unwrap().is_due(uaid, caller, 1) == Some(false));
+        }
+    }
+    answered
+}
+
+fn main() {
+    let mut words = std::env::args().skip(1).map(|word| word.parse::<u64>().unwrap());
+    let (callers, width, rounds) = (words.next().unwrap(), words.next().unwrap(), words.next().unwrap());
+    let mut shards: Vec<Mutex<Shard>> = (0..width).map(|_| Mutex::default()).collect();
+    let answered: u64 = match callers {
+        0 => {
+            let bare = shards[0].get_mut().unwrap();
+            bare.open(1, 1);
+            (0..rounds).map(|_| u64::from(bare.is_due(black_box(1), 1, 1) == Some(false))).sum()
+        }
+        1 => serve(&shards, 1, rounds),
+        _ => thread::scope(|scope| {
+            let shards = &shards;
+            let threads: Vec<_> = (1..=callers).map(|k| scope.spawn(move || serve(shards, k as u8, rounds))).collect();
+            threads.into_iter().map(|thread| thread.join().unwrap()).sum()
+        }),
+    };
+    println!("{answered}");
 }

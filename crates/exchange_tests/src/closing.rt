@@ -8,7 +8,7 @@ use std::alloc::Global;
 use std::sync::Wait;
 use std::test::Fail;
 
-// The bells of the eight nodes.
+/// The bells of the eight nodes, which ring nowhere.
 pub fn bells(alloc: Global) -> Result<Vec<NoBell>, Fail>
     ensures { IfOk result (λ v. vec_len v ≡ 8) }
 {

@@ -2,4 +2,10 @@
 #![tactic(auto)]
 
 #[cfg(test)]
+mod callers;
+#[cfg(test)]
 mod closing;
+#[cfg(test)]
+mod creating;
+#[cfg(test)]
+mod routing;

@@ -14,7 +14,7 @@ use Rattle.push_model.specs.Caring.{is_cared}
 use Rattle.push_model.specs.MailWords.{IsLegalMail}
 use Rattle.push_model.specs.DeskViews.{Calls, IsFront, IsHonest, IsSameDesk, Mails, entry_by, mail_by, own_among}
 use Rattle.push_model.proofs.DeskLemmas.{calls_still, mails_still}
-use Rattle.turn_board.specs.Numbers.{GrewByOthers, has, longer}
+use Rattle.turn_board.specs.Numbers.{GrewByOthers, has, longer, own_by}
 use Rattle.turn_board.specs.Views.{longer_each, mail_at}
 use Rattle.turn_board.proofs.PinLemmas.{own_grown}
 use Rattle.turn_board.proofs.Fronts.{at_longer_each}
@@ -91,6 +91,10 @@ all_of_two : (P : PassView → PassView → Type 0) (ps qs : List PassView) → 
 all_of_two P ps qs wide wide_too none each = either {P = λ k. P (pass_at ps k) (pass_at qs k)} each
     (λ k high. subst (λ (p : PassView). P p (pass_at qs k)) (sym (past ps k wide high)) (subst (P no_pass) (sym (past qs k wide_too high)) none))
 
+node_none : (p : PassView) → ((slot : ℕ) → own_by mail_by p.numbers (mail_at p.mail slot) ≡ []) → (n : ℕ) → own_among mail_by (λ m. has p.numbers m) (node_mail p.mail n) ≡ []
+node_none p none zero = refl
+node_none p none (suc slot) = none slot
+
 pub split_view : (bs : List (List ℕ)) (v ps qs : List PassView) → ps ≡ v → IsSeated bs ps → AllSplitOff 16 ps qs → IsSplit (passes_view v) (passes_view qs)
 split_view bs v ps qs is h s = subst (λ (l : List PassView). IsSplit (passes_view l) (passes_view qs)) is (record {
   size = s.wide ∙ sym h.wide;
@@ -102,6 +106,7 @@ split_view bs v ps qs is h s = subst (λ (l : List PassView). IsSplit (passes_vi
       (λ j low. ap (λ (ns : List ℕ). has ns n) (s.each j low).one ∙ or_false ((pass_at qs j).number == n)) k;
   fresh = λ k low. (s.each k (let w = s.wide in omega arith)).fresh;
   none_own = all_of (λ q. own_among entry_by (λ n. has q.numbers n) q.seen ≡ []) qs s.wide refl (λ k low. (s.each k low).none_own);
+  none_own_mail = λ k. node_none (pass_at qs k) (all_of (λ q. (slot : ℕ) → own_by mail_by q.numbers (mail_at q.mail slot) ≡ []) qs s.wide (λ slot. refl) (λ j low. (s.each j low).none_own_mail) k);
 })
 
 -- ---- joined

@@ -99,6 +99,7 @@ split_later a b c f g = record {
   one = g.one;
   fresh = subst (λ (ns : List ℕ). has ns c.number ≡ false) f.same.numbers g.fresh;
   none_own = g.none_own;
+  none_own_mail = g.none_own_mail;
 }
 
 -- the first n boards gave a new pass each

@@ -65,8 +65,8 @@ pub record IsFresh (v : DeskView) : Type 0 where
 
 -- ---- split and joined
 
--- New passes of the same boards, which have seen as much. Each has one number, which isn't among the old ones, and no entry of
--- its own.
+-- New passes of the same boards, which have seen as much. Each has one number, which isn't among the old ones, and no entry
+-- and no mail of its own.
 pub record IsSplit (old new : DeskView) : Type 0 where
   pub size : new.size ≡ old.size
   pub board : IsBeside old new
@@ -76,6 +76,7 @@ pub record IsSplit (old new : DeskView) : Type 0 where
   pub one : (k n : ℕ) → new.is_own k n ≡ (new.number k == n)
   pub fresh : (k : ℕ) → k < new.size → old.is_own k (new.number k) ≡ false
   pub none_own : (k : ℕ) → own_entries new k ≡ []
+  pub none_own_mail : (k n : ℕ) → own_mail new k n ≡ []
 
 -- What is seen begins with all that the part had seen. The part's own entries, and its own mail, are there, and no others of
 -- its numbers.

@@ -97,8 +97,8 @@ pub record Replied (a b : PassView) (x : Step) (r : Reply) : Type 0 where
   pub seen : b.seen ≡ (a.seen ++ between) ++ entry a.number x r ∷ []
   pub foreign : own_by entry_by a.numbers between ≡ []
 
--- A new pass of the same board, which has seen as much. It has one number, which isn't among the old ones, and no entry of
--- its own.
+-- A new pass of the same board, which has seen as much. It has one number, which isn't among the old ones, and no entry and
+-- no mail of its own.
 pub record IsSplitOff (a b : PassView) : Type 0 where
   pub board : b.board ≡ a.board
   pub opened : b.opened ≡ a.opened
@@ -107,6 +107,7 @@ pub record IsSplitOff (a b : PassView) : Type 0 where
   pub one : b.numbers ≡ b.number ∷ []
   pub fresh : has a.numbers b.number ≡ false
   pub none_own : own_by entry_by b.numbers b.seen ≡ []
+  pub none_own_mail : (slot : ℕ) → own_by mail_by b.numbers (mail_at b.mail slot) ≡ []
 
 -- what is seen begins with all that the part had seen, and has nothing further that the part's numbers sign
 pub record HasSeenPart (new part : PassView) : Type 0 where

@@ -108,7 +108,7 @@ impl ShardBoard {
         self.board.take_mail(&mut pass.pass, slot)
     }
 
-    /// A pass for another caller, which has seen as much and has no entry of its own. It takes no memory.
+    /// A pass for another caller, which has seen as much and has no entry and no mail of its own. It takes no memory.
     pub fn split<R: Wait>(&self, rt: &R, pass: &mut ShardPass) -> ShardPass
         requires board { pass.old.board ≡ self.now }
         requires opened { IsReached pass.old.opened }

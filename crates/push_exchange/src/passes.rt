@@ -61,9 +61,9 @@ impl<R: Wait + Copy, B: Bell> Passes<R, B> {
         let _ = &self.passes;
     }
 
-    /// Passes of the same boards for another caller, which have seen as much and have no entry of their own. On each board
-    /// their number is one that no other pass has. It may wait where others draw a number. Memory is asked for before the
-    /// first board is, so that nothing changes where it is missing.
+    /// Passes of the same boards for another caller, which have seen as much and have no entry and no mail of their own. On
+    /// each board their number is one that no other pass has. It may wait where others draw a number. Memory is asked for
+    /// before the first board is, so that nothing changes where it is missing.
     pub fn split(&mut self, alloc: Global) -> Result<Passes<R, B>, NoMemory>
         ensures calls { Calls (passes_view self.old) (passes_view self.new) [] }
         ensures mails { Mails (passes_view self.old) (passes_view self.new) [] }

@@ -19,7 +19,7 @@ use Rattle.turn_board.specs.declared.view.Place.TheVariants.{Free}
 use Rattle.turn_board.specs.declared.view.View.{View}
 use Rattle.turn_board.specs.Numbers.{most_seats, has, own_by}
 use Rattle.push_model.specs.DeskViews.{mail_by}
-use Rattle.turn_board.specs.Views.{entry_by, own_of, mail_at, tickets, with_spare, with_count, without_parts, ticket_of, all_numbers, tickets_out, number_count}
+use Rattle.turn_board.specs.Views.{entry_by, own_of, mail_at, tickets, with_spare, with_count, without_parts, ticket_of, SignsNothing, all_numbers, tickets_out, number_count}
 use Rattle.turn_board.specs.Rule.{Fits, MailFits, AllBelow, AllSigned, IsBoard}
 use Rattle.turn_board.specs.Plays.{SeatState, DrawsNumber, Counts, Compares, IsSoundSeat}
 use Rattle.turn_board.proofs.Rows.{none_true, is_false, none_in, one_total, two_total, total_set, each_set, apart_set, apart_within, has_either, has_later}
@@ -142,7 +142,7 @@ module _ {W S R : Type 0} (run : W → S → W × R) (proper : ℕ → S → Boo
       )
 
   abbrev Drawn : SeatState W S R → ℕ → SeatState W S R → Type 0
-  Drawn me found m = (m ≡ (with_spare me.0 found, me.1)) × (own_of (found ∷ []) me.0.seen ≡ []) × (has me.0.numbers found ≡ false)
+  Drawn me found m = (m ≡ (with_spare me.0 found, me.1)) × SignsNothing found me.0 × (has me.0.numbers found ≡ false)
 
   abbrev Draw : ℕ → SeatState W S R → ℕ → SeatState W S R → Type 0
   Draw n me found m = MatchBool (found == n) (Drawn me found m) (m ≡ me)
@@ -178,6 +178,8 @@ module _ {W S R : Type 0} (run : W → S → W × R) (proper : ℕ → S → Boo
       let count = r.count in
       let few = r.few in
       let new : own_of (x ∷ []) r.history ≡ [] = subst (λ (k : ℕ). own_of (k ∷ []) r.history ≡ []) (sym found) (none_by r.seats r.history r.signed) in
+      let mail = r.each_mail id me.0 at in
+      let new_mail : (k : ℕ) → own_by mail_by (x ∷ []) (mail_at r.mails k) ≡ [] = λ k. subst (λ (z : ℕ). own_by mail_by (z ∷ []) (mail_at r.mails k) ≡ []) (sym found) (none_by_mail r.seats (mail_at r.mails k) (r.mail_signed k)) in
       let not_mine : (k : ℕ) → x ≡ k → has (all_numbers me.0) k ≡ true → ⊥ = λ k e h. let l = f.drawn k h in omega arith in
       let of_mine : (k : ℕ) → has me.0.numbers k ≡ true → has (all_numbers me.0) k ≡ true = λ k h. has_later me.0.spare me.0.numbers k h in
       let numbered = f.numbered in
@@ -197,7 +199,7 @@ module _ {W S R : Type 0} (run : W → S → W × R) (proper : ℕ → S → Boo
         mail_wide = r.mail_wide;
         mail_legal = r.mail_legal;
         mail_signed = λ k. subst (λ (z : ℕ). AllBelow (z + 1) (mail_at r.mails k)) hit (more_below r.seats (mail_at r.mails k) (r.mail_signed k));
-        each_mail = each_set (MailFits r.mails) s.views id w (λ j u _ e. r.each_mail j u e) ((r.each_mail id me.0 at).0, λ k. subst (λ (z : ℕ). own_by mail_by (z ∷ []) (mail_at r.mails k) ≡ []) (sym found) (none_by_mail r.seats (mail_at r.mails k) (r.mail_signed k)));
+        each_mail = each_set (MailFits r.mails) s.views id w (λ j u _ e. r.each_mail j u e) (mail.0, new_mail);
         tickets_apart = apart_within ticket_of s.views id me.0 w at r.tickets_apart (λ k h. h);
         numbers_apart = apart_set all_numbers s.views id w r.numbers_apart (λ j v k other e hv hw. ⊎_elim
             (λ t. let l = (r.each j v e).drawn k hv in let z : x ≡ k = one_has x k t in omega arith)
@@ -238,7 +240,7 @@ module _ {W S R : Type 0} (run : W → S → W × R) (proper : ℕ → S → Boo
         tt,
         subst (λ (b : Bool). Rule (stepped s 3 (either b (n + 1) x) id me.1 w keeps)) (sym same) q,
         subst (λ (b : Bool). MatchBool b (Drawn me x m) (m ≡ me)) (sym same)
-            (refl, own_by-front entry_by (x ∷ []) me.0.seen f.rest (ap (own_of (x ∷ [])) (sym f.begins) ∙ new), is_false (has me.0.numbers x) (λ t. not_mine x refl (of_mine x t))),
+            (refl, (own_by-front entry_by (x ∷ []) me.0.seen f.rest (ap (own_of (x ∷ [])) (sym f.begins) ∙ new), λ k. let m = mail.0 k in own_by-front mail_by (x ∷ []) (mail_at me.0.mail k) m.0 (ap (own_by mail_by (x ∷ [])) (sym m.1) ∙ new_mail k)), is_false (has me.0.numbers x) (λ t. not_mine x refl (of_mine x t))),
       )
 
   pub draws_number : (slots id n : ℕ) (me : SeatState W S R) → me.0.place ≡ Free → length me.0.spare ≡ 0 → 0 < length me.0.numbers → n < most_seats

@@ -41,6 +41,10 @@ module _ {W S R : Type 0} {g : Ghosts W S R} where
   abbrev pub pass_mail : Pass W S R g → List (List MailEntry)
   pass_mail p = p.seat.me.0.mail
 
+  -- what of the slot's mail is the pass's own
+  abbrev pub pass_own_mail : Pass W S R g → ℕ → List MailEntry
+  pass_own_mail p slot = own_by mail_by (pass_numbers p) (mail_at (pass_mail p) slot)
+
   -- how often the pass counted the board's numbers
   abbrev pub pass_counts : Pass W S R g → ℕ
   pass_counts p = p.seat.me.0.counts

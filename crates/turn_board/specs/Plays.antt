@@ -11,7 +11,7 @@ use Rattle.turn_board.specs.declared.view.Place.TheVariants.{Free, Waits, Serves
 use Rattle.turn_board.specs.declared.view.View.{View}
 use Rattle.turn_board.specs.Numbers.{word_size, most_seats, has, own_by}
 use Rattle.push_model.specs.DeskViews.{mail_by}
-use Rattle.turn_board.specs.Views.{own_of, mail_at, AllParts, number_count, at_place, with_known, with_entries, with_spare, with_count, with_mail, without_parts}
+use Rattle.turn_board.specs.Views.{own_of, mail_at, AllParts, number_count, at_place, with_known, with_entries, with_spare, with_count, with_mail, without_parts, SignsNothing}
 
 -- what a seat knows, and the slots that are out with it
 abbrev pub SeatState : Type 0 → Type 0 → Type 0 → Type 0
@@ -46,9 +46,9 @@ module _ {W S R : Type 0} where
   abbrev pub Stays : Step (Option (Home W)) → SeatState W S R → ℕ → SeatState W S R → Type 0
   Stays st me found m = m ≡ me
 
-  -- where the number found is the one expected, it is drawn, and no entry seen is signed by it
+  -- where the number found is the one expected, it is drawn, and nothing seen is signed by it
   abbrev pub DrawsNumber : Step (Option (Home W)) → SeatState W S R → ℕ → SeatState W S R → Type 0
-  DrawsNumber st me found m = MatchBool (found == st.first) ((m ≡ (with_spare me.0 found, me.1)) × (own_of (found ∷ []) me.0.seen ≡ []) × (has me.0.numbers found ≡ false)) (m ≡ me)
+  DrawsNumber st me found m = MatchBool (found == st.first) ((m ≡ (with_spare me.0 found, me.1)) × SignsNothing found me.0 × (has me.0.numbers found ≡ false)) (m ≡ me)
 
   -- so many numbers were drawn
   abbrev pub Counts : Step (Option (Home W)) → SeatState W S R → ℕ → SeatState W S R → Type 0

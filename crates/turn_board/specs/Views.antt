@@ -1,5 +1,5 @@
 -- What a seat of a board knows, and how its steps change that.
-use Rattle.std.specs.Prelude.{ℕ, zero, suc, ◌+◌, List, [], ◌∷◌, ◌++◌, length, Some, None, slice_index_or}
+use Rattle.std.specs.Prelude.{◌≡◌, ℕ, zero, suc, ◌+◌, List, [], ◌∷◌, ◌++◌, length, Some, None, slice_index_or}
 use Rattle.push_model.specs.declared.entry.Entry.{Entry}
 use Rattle.push_model.specs.declared.mail.MailEntry.{MailEntry}
 use Rattle.push_model.specs.DeskViews.{mail_by}
@@ -96,6 +96,10 @@ module _ {W S R : Type 0} where
   -- a join: the longer of what the two have seen, and the numbers of both
   abbrev pub joined : View W S R → View W S R → View W S R
   joined v w = record v { seen = longer v.seen w.seen; numbers = v.numbers ++ w.numbers; spare = []; counted = 0; parts = part_of v ∷ part_of w ∷ []; mail = longer_each v.mail w.mail }
+
+  -- nothing that was seen, also of mail, is signed by the number
+  abbrev pub SignsNothing : ℕ → View W S R → Type 0
+  SignsNothing n v = (own_of (n ∷ []) v.seen ≡ []) × ((slot : ℕ) → own_by mail_by (n ∷ []) (mail_at v.mail slot) ≡ [])
 
   abbrev pub all_numbers : View W S R → List ℕ
   all_numbers v = v.spare ++ v.numbers

@@ -2,7 +2,7 @@
 ghost use Rattle.std.specs.Prelude.{◌≡◌, ◌<◌, ◌≤◌, ◌++◌, false, [], ◌∷◌, length, MatchBool};
 ghost use Rattle.turn_board.specs.declared.view.Place.TheVariants.{Free};
 ghost use Rattle.turn_board.specs.Numbers.{most_seats, has};
-ghost use Rattle.turn_board.specs.Views.{own_of, AllParts, number_count, with_spare, with_count, without_parts, kept_half, given_half, joined};
+ghost use Rattle.turn_board.specs.Views.{AllParts, SignsNothing, number_count, with_spare, with_count, without_parts, kept_half, given_half, joined};
 ghost use Rattle.turn_board.specs.Plays.{IsSoundSeat};
 ghost use Rattle.turn_board.specs.Seats.{IsSameSeat, IsSeatOf};
 
@@ -20,7 +20,7 @@ fn try_number<T: Object>(table: &BoardTable<T>, seat: &mut BoardSeat<T>, n: u64)
     requires free { (seat.old.me.0.place ≡ Free) × (length seat.old.me.0.spare ≡ 0) × (0 < length seat.old.me.0.numbers) }
     requires room { n < most_seats }
     ensures same { IsSameSeat seat.old seat.new }
-    ensures number { MatchBool result ((seat.new.me ≡ (with_spare seat.old.me.0 n, seat.old.me.1)) × (own_of (n ∷ []) seat.old.me.0.seen ≡ []) × (has seat.old.me.0.numbers n ≡ false)) (seat.new.me ≡ seat.old.me) }
+    ensures number { MatchBool result ((seat.new.me ≡ (with_spare seat.old.me.0 n, seat.old.me.1)) × SignsNothing n seat.old.me.0 × (has seat.old.me.0.numbers n ≡ false)) (seat.new.me ≡ seat.old.me) }
 {
     let found = table
         .shared
@@ -38,7 +38,7 @@ pub fn draw_number<T: Object, R: Wait>(
     requires free { (seat.old.me.0.place ≡ Free) × (length seat.old.me.0.spare ≡ 0) × (0 < length seat.old.me.0.numbers) }
     ensures same { IsSameSeat seat.old seat.new }
     ensures view { seat.new.me ≡ (with_spare seat.old.me.0 result, seat.old.me.1) }
-    ensures none { own_of (result ∷ []) seat.old.me.0.seen ≡ [] }
+    ensures none { SignsNothing result seat.old.me.0 }
     ensures new { has seat.old.me.0.numbers result ≡ false }
 {
     for _ in rt.forever() {

@@ -1,0 +1,5 @@
+use Rattle.push_exchange.specs.Boards.{IsOver, passes_view}
+use Rattle.board_bench.proofs.open_all.Given as goal
+
+abbrev pub invariant-loop-shard : goal.invariant-loop-shard
+invariant-loop-shard g l = IsOver l.exchange (passes_view l.passes)

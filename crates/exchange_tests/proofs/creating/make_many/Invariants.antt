@@ -1,0 +1,7 @@
+use Rattle.push_exchange.specs.Boards.{passes_view}
+use Rattle.exchange_tests.specs.Callers.{IsCaller}
+use Rattle.exchange_tests.specs.declared.creating.TheConstants.{SHARD}
+use Rattle.exchange_tests.proofs.creating.make_many.Given as goal
+
+abbrev pub invariant-loop-k : goal.invariant-loop-k
+invariant-loop-k g l = IsCaller l.exchange SHARD l.by (passes_view l.passes)
