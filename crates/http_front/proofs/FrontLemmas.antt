@@ -1,6 +1,6 @@
 -- Requests that were read are sound, and every refusal can be told.
 use Rattle.std.proofs.Common.{◌≡◌, ◌≤◌, ℕ, List, length, refl, sym, ap, subst, arith}
-use Rattle.std.specs.Prelude.{Option, Some, None, IfSome}
+use Rattle.std.specs.Prelude.{IfErr}
 use Rattle.http_wire.specs.declared.framing.Framing.{Framing}
 use Rattle.http_wire.specs.declared.framing.Framing.TheVariants.{Length, Chunked}
 use Rattle.http_wire.specs.declared.body.Body.{Body}
@@ -46,7 +46,7 @@ fault_tellable LongBody = record { row = refl; known = refl; bodied = λ e. omeg
 fault_tellable (Head f) = head_tellable f
 fault_tellable BadToken = record { row = refl; known = refl; bodied = λ e. omega arith }
 
-pub answer_tellable : (answer : Answer) → IfSome (answer_row answer) IsTellable
+pub answer_tellable : (answer : Answer) → IfErr (answer_row answer) IsTellable
 answer_tellable (Created i ttl) = tt
 answer_tellable Gone = record { row = refl; known = refl; bodied = λ e. omega arith }
 answer_tellable Full = record { row = refl; known = refl; bodied = λ e. omega arith }

@@ -1,5 +1,5 @@
 -- What is wrong with a request, and what one without a fault asks for.
-use Rattle.std.specs.Prelude.{◌≡◌, ◌↔◌, ℕ, ◌≤◌, Bool, true, false, List, length, Option, Some, None, Result, Ok, Err, codes, if◌then◌else◌}
+use Rattle.std.specs.Prelude.{◌≡◌, ℕ, ◌≤◌, Bool, List, length, Option, Some, None, Result, Ok, Err, codes, if◌then◌else◌}
 use Rattle.std.specs.Str.{bytes_eq}
 use Rattle.push_model.specs.declared.ask.Terms.{Terms}
 use Rattle.push_model.specs.declared.ids.Token.{Token}

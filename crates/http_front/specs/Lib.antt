@@ -1,2 +1,10 @@
+pub mod Connections
 pub mod Faults
+pub mod OpNumbers
 pub mod Rows
+pub mod Exchanges
+pub mod Begins
+pub mod Codes
+pub mod Comings
+pub mod Served
+pub mod Steps

@@ -1,5 +1,5 @@
 -- Which status code and which number a refusal has, and how it is told.
-use Rattle.std.specs.Prelude.{◌≡◌, ℕ, ◌==◌, Bool, true, List, Option, Some, None, codes, if◌then◌else◌}
+use Rattle.std.specs.Prelude.{◌≡◌, ℕ, ◌==◌, Bool, List, Option, Some, None, Result, Ok, Err, codes, if◌then◌else◌}
 use Rattle.push_model.specs.declared.ids.MsgId.{MsgId}
 use Rattle.push_headers.specs.declared.check.HeadFault.{HeadFault}
 use Rattle.push_headers.specs.declared.check.HeadFault.TheVariants.{MissingTtl, BadTtl, BadTopic, BadUrgency, BadEncoding}
@@ -28,12 +28,12 @@ fault_row LongBody = refusal 413 104
 fault_row (Head fault) = head_row fault
 fault_row BadToken = refusal 404 102
 
--- what a route answers, if it is a refusal
-abbrev pub answer_row : Answer → Option Refusal
-answer_row (Created i ttl) = None
-answer_row Gone = Some (refusal 410 103)
-answer_row Full = Some (refusal 503 202)
-answer_row IdsSpent = Some (refusal 503 203)
+-- what a route answers: the message that was taken and for how long it is kept, or a refusal
+abbrev pub answer_row : Answer → Result (MsgId × ℕ) Refusal
+answer_row (Created i ttl) = Ok (i, ttl)
+answer_row Gone = Err (refusal 410 103)
+answer_row Full = Err (refusal 503 202)
+answer_row IdsSpent = Err (refusal 503 203)
 
 -- its code and its number are those of one refusal, and its code has a phrase and may have a body
 pub record IsTellable (r : Refusal) : Type 0 where

@@ -1,10 +1,11 @@
 //! The rows of refusals.
-ghost use Rattle.std.specs.Prelude.{◌≡◌, IfSome};
+ghost use Rattle.std.specs.Prelude.{◌≡◌, IfErr};
 ghost use Rattle.http_front.specs.Rows.{IsTellable, answer_row, fault_row, head_row};
 
 use crate::fault::Fault;
 use endpoint_router::Answer;
 use push_headers::HeadFault;
+use push_model::MsgId;
 
 /// How a refusal is told: its status code, and the number of what is wrong.
 #[derive(Clone, Copy, Debug, PartialEq, Eq)]
@@ -45,14 +46,14 @@ fn fault_row(fault: Fault) -> Refusal
     }
 }
 
-fn answer_row(answer: Answer) -> Option<Refusal>
+fn answer_row(answer: Answer) -> Result<(MsgId, u32), Refusal>
     ensures { result ≡ answer_row answer }
 {
     match answer {
-        Answer::Created(_, _) => None,
-        Answer::Gone => Some(refusal_row(410, 103)),
-        Answer::Full => Some(refusal_row(503, 202)),
-        Answer::IdsSpent => Some(refusal_row(503, 203)),
+        Answer::Created(id, ttl) => Ok((id, ttl)),
+        Answer::Gone => Err(refusal_row(410, 103)),
+        Answer::Full => Err(refusal_row(503, 202)),
+        Answer::IdsSpent => Err(refusal_row(503, 203)),
     }
 }
 
@@ -65,10 +66,10 @@ impl Refusal {
         fault_row(fault)
     }
 
-    /// How a route's answer is told where the message wasn't taken; else `None`.
-    pub fn of_answer(answer: Answer) -> Option<Refusal>
+    /// The message that a route took, and the seconds for which it is kept; or how its answer is told.
+    pub fn of_answer(answer: Answer) -> Result<(MsgId, u32), Refusal>
         ensures value { result ≡ answer_row answer }
-        ensures tellable { IfSome result IsTellable }
+        ensures tellable { IfErr result IsTellable }
     {
         answer_row(answer)
     }

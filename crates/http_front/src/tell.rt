@@ -1,10 +1,12 @@
 //! Replies to a request.
-ghost use Rattle.std.specs.Prelude.{◌≡◌, ◌⊎◌};
+ghost use Rattle.std.specs.Prelude.{◌≡◌, ◌⊎◌, true};
 ghost use Rattle.std.specs.Io.KnownBytes.{Keeps};
 ghost use Rattle.http_bytes.specs.Causes.{CausedByWrites};
 ghost use Rattle.http_bytes.specs.Puts.{WritesAll};
 ghost use Rattle.push_json.specs.Bodies.{error_body};
-ghost use Rattle.http_front.specs.Rows.{IsTellable, created_text, memory_text, refusal_text};
+ghost use Rattle.http_front.specs.Rows.{IsTellable, created_text, memory_text, refusal, refusal_text};
+ghost use Rattle.http_front.specs.Served.{TellsWhy};
+ghost use Rattle.http_front.specs.Steps.{WhyCausedBy};
 
 use crate::refusal::Refusal;
 use http_bytes::WireFault;
@@ -103,5 +105,29 @@ pub fn tell_refusal<W: Wire>(
     match error_body(alloc, refusal.code, refusal.errno) {
         Ok(body) => tell_with_body(wire, refusal, close, body.as_str()),
         Err(_) => tell_no_memory(wire, close),
+    }
+}
+
+/// Tells the refusal of bytes that are no request, of that code and number, as the last that is written; and says why the
+/// connection ends: for that fault, or, where the text could not be written whole, for what writing it answered. Where there is
+/// no memory for its body nothing is written.
+pub(crate) fn tell_malformed<W: Wire>(
+    alloc: Global,
+    wire: &mut W,
+    fault: WireFault,
+    code: u16,
+    errno: u16,
+) -> WireFault
+    requires { IsTellable (refusal code errno) }
+    ensures told { TellsWhy fault result (refusal_text (refusal code errno) true) (W.written wire.old) (W.written wire.new) }
+    ensures kept { Keeps (W.left wire.old) (W.left wire.new) }
+    ensures cause { WhyCausedBy fault result (W.faults wire.old) (W.faults wire.new) (W.lulls wire.new) }
+{
+    let Ok(body) = error_body(alloc, code, errno) else {
+        return WireFault::NoMemory;
+    };
+    match tell_with_body(wire, Refusal { code, errno }, true, body.as_str()) {
+        Ok(()) => fault,
+        Err(end) => end,
     }
 }
