@@ -1,0 +1,5 @@
+pub mod ListGateValue
+pub mod ListGates
+pub mod ShareValue
+pub mod Shares
+pub mod Together

@@ -1,0 +1,5 @@
+pub mod Goings
+pub mod Jobs
+pub mod Openings
+pub mod Servers
+pub mod Tasks

@@ -1,0 +1,5 @@
+mod CloseLemmas
+mod DeskRuns
+mod LawLemmas
+mod RoundLemmas
+mod SeatLemmas
