@@ -1,0 +1,6 @@
+mod WorkLemmas
+mod FrontLemmas
+mod LineLemmas
+mod ByteLemmas
+mod FaultLemmas
+mod TallyLemmas
