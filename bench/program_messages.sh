@@ -24,11 +24,11 @@ replay() { printf '%b' "$1" | "$program" replay >"$work/output" 2>"$work/said"; 
 
 replay 'create 1 1 100\n';                   ended 'all is answered' 0 'made\n' ''
 "$program" </dev/null >"$work/output" 2>"$work/said"
-ended 'no words' 2 '' 'autopush: usage: autopush replay < SCHEDULE'
+ended 'no words' 2 '' 'autopush: usage: autopush replay < SCHEDULE, or autopush serve CONNECTIONS ENDPOINTS CONNECTION_PORT ENDPOINT_PORT'
 "$program" --help </dev/null >"$work/output" 2>"$work/said"
-ended 'other words' 2 '' 'autopush: usage: autopush replay < SCHEDULE'
+ended 'other words' 2 '' 'autopush: usage: autopush replay < SCHEDULE, or autopush serve CONNECTIONS ENDPOINTS CONNECTION_PORT ENDPOINT_PORT'
 "$program" $'\xff' </dev/null >"$work/output" 2>"$work/said"
-ended 'a word that is no text' 2 '' 'autopush: usage: autopush replay < SCHEDULE'
+ended 'a word that is no text' 2 '' 'autopush: usage: autopush replay < SCHEDULE, or autopush serve CONNECTIONS ENDPOINTS CONNECTION_PORT ENDPOINT_PORT'
 replay 'create 1 1 100\nfly\nreport\n';      ended 'a name of no step' 4 'made\nrefused line 2\n' 'autopush: line 2: word 1 names no kind of step'
 replay 'kill 9';                             ended 'a number out of range' 4 'refused line 1\n' 'autopush: line 1: word 2, the node (a number from 1 to 8), is out of range'
 replay 'report \n';                          ended 'a space behind' 4 'refused line 1\n' 'autopush: line 1: a space stands behind'

@@ -5,6 +5,7 @@ ghost use Rattle.std.specs.Prelude.{◌≡◌, IfOk, IfErr, IsOk, IsErr, MatchRe
 ghost use Rattle.std.specs.Vec.Iter.{into_iter_items};
 
 use autopush_main::{WordsFault, start};
+use autopush_serve::{is_serve, serve_here};
 use push_outside::{Reading, Writing};
 use std::alloc::{AllocError, Global};
 use std::process::ExitCode;
@@ -46,6 +47,11 @@ fn main(rt: HostRuntime) -> ExitCode {
     let mut input = Reading::new(rt.reader());
     let mut output = Writing::new(io::writer(&rt));
     let mut messages = Writing::new(rt.stderr());
-    let ending = start(alloc, &words, &mut input, &mut output, &mut messages);
-    ExitCode::from(ending.status)
+    let status = match &words {
+        Ok(words) if is_serve(words) => {
+            serve_here(rt, rt, alloc, words, &mut input, &mut output, &mut messages).status
+        }
+        _ => start(alloc, &words, &mut input, &mut output, &mut messages).status,
+    };
+    ExitCode::from(status)
 }

@@ -24,7 +24,7 @@ end_message (ends.WriteFault Waited) = codes "autopush: the output waited too lo
 end_message ends.NoMemory = codes "autopush: memory ran out" ++ 10 ∷ []
 
 abbrev pub message : Ended → List ℕ
-message WrongWords = codes "autopush: usage: autopush replay < SCHEDULE" ++ 10 ∷ []
+message WrongWords = codes "autopush: usage: autopush replay < SCHEDULE, or autopush serve CONNECTIONS ENDPOINTS CONNECTION_PORT ENDPOINT_PORT" ++ 10 ∷ []
 message NoWords = codes "autopush: memory ran out" ++ 10 ∷ []
 message (Replayed end) = end_message end
 

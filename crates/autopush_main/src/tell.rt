@@ -9,7 +9,8 @@ use push_model::NoMemory;
 use push_outside::Sink;
 use std::alloc::Global;
 
-const USAGE: &[u8] = b"autopush: usage: autopush replay < SCHEDULE\n";
+const USAGE: &[u8] =
+    b"autopush: usage: autopush replay < SCHEDULE, or autopush serve CONNECTIONS ENDPOINTS CONNECTION_PORT ENDPOINT_PORT\n";
 
 const INPUT_FAILED: &[u8] = b"autopush: the input failed\n";
 

@@ -93,7 +93,8 @@ fn says_without(
 #[test]
 fn there_are_no_words(rt: HostRuntime) -> Result<(), Fail> {
     let alloc = rt.alloc();
-    let usage = b"autopush: usage: autopush replay < SCHEDULE\n".as_slice();
+    let usage =
+        b"autopush: usage: autopush replay < SCHEDULE, or autopush serve CONNECTIONS ENDPOINTS CONNECTION_PORT ENDPOINT_PORT\n".as_slice();
     says_without(&rt, alloc, WordsFault::NotText, 2, usage)?;
     let no_memory = b"autopush: memory ran out\n".as_slice();
     says_without(&rt, alloc, WordsFault::NoMemory, 7, no_memory)
@@ -136,7 +137,8 @@ fn help_is_no_command(rt: HostRuntime) -> Result<(), Fail> {
     assert_eq!(rt; ending.status, 2);
     assert_eq!(rt; output.bytes().len(), 0);
     assert_eq!(rt; input.left(), b"report\n".as_slice());
-    let usage = b"autopush: usage: autopush replay < SCHEDULE\n".as_slice();
+    let usage =
+        b"autopush: usage: autopush replay < SCHEDULE, or autopush serve CONNECTIONS ENDPOINTS CONNECTION_PORT ENDPOINT_PORT\n".as_slice();
     assert!(rt; messages.bytes() == usage, "the usage");
     Ok(())
 }

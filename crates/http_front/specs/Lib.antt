@@ -1,5 +1,7 @@
 pub mod Connections
 pub mod Faults
+pub mod Admissions
+pub mod Cuts
 pub mod OpNumbers
 pub mod Rows
 pub mod Exchanges
@@ -7,4 +9,5 @@ pub mod Begins
 pub mod Codes
 pub mod Comings
 pub mod Served
+pub mod Writings
 pub mod Steps

@@ -7,4 +7,4 @@ use Rattle.node_runner.specs.declared.job.Task.TheVariants.{Connection, Endpoint
 -- an endpoint begins flights from the number 0 on, so none of its own may be there
 abbrev pub Suits : {R L C G : Type 0} → Task R L C G → DeskView → Type 0
 Suits (Connection listener clock draw place) v = Unit {0}
-Suits (Endpoint listener clock paths) v = IsAbove v 0
+Suits (Endpoint listener clock) v = IsAbove v 0

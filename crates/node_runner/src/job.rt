@@ -5,7 +5,7 @@ ghost use Rattle.push_exchange.specs.Boards.{passes_view};
 ghost use Rattle.node_runner.specs.Jobs.{HandsBack};
 
 use crate::http::HttpEach;
-use node_loops::{Share, StopGate, endpoint_loop};
+use node_loops::{Gate, Share, StopGate, endpoint_loop};
 use node_routes::HereLink;
 use node_sessions::connection_loop;
 use push_exchange::Passes;
@@ -23,7 +23,7 @@ enum Task<R, L, C, G> {
     // A connection node.
     Connection(L, C, G, Place),
     // An endpoint node, of which there is a second one.
-    Endpoint(Share<R, L>, C, Paths),
+    Endpoint(Share<R, L>, C),
 }
 
 /// The work of one loop of a node. Contracts see it as the passes that it was given.
@@ -72,15 +72,14 @@ impl<R: Wait + Copy, B: Bell, L: Listener, C: Clock + Drop, G: Draw + Drop> Node
         }
     }
 
-    /// One of the two loops of an endpoint node, which serves senders by HTTP. Its passes began no flight, and none of the numbers
-    /// that sign their entries has a flight in the worlds in which the shards began.
+    /// One of the two loops of an endpoint node, which serves senders by HTTP, once there is memory for its router. Its passes began no
+    /// flight, and none of the numbers that sign their entries has a flight in the worlds in which the shards began.
     pub fn endpoint(
         rt: R,
         alloc: Global,
         passes: Passes<R, B>,
         listener: Share<R, L>,
         clock: C,
-        paths: Paths,
         gate: StopGate,
     ) -> NodeJob<R, B, L, C, G>
         requires { IsAbove (passes_view passes) 0 }
@@ -90,7 +89,7 @@ impl<R: Wait + Copy, B: Bell, L: Listener, C: Clock + Drop, G: Draw + Drop> Node
             rt,
             alloc,
             passes,
-            task: Task::Endpoint(listener, clock, paths),
+            task: Task::Endpoint(listener, clock),
             gate,
         }
     }
@@ -115,9 +114,8 @@ impl<R: Wait + Copy, B: Bell, L: Listener, C: Clock + Drop, G: Draw + Drop> Job
             Task::Connection(listener, clock, draw, place) => {
                 serve_sessions(&rt, alloc, passes, listener, clock, draw, &place, gate)
             }
-            Task::Endpoint(listener, clock, paths) => {
-                let each = HttpEach::new(alloc, passes, clock, paths);
-                serve_senders(&rt, listener, each, gate)
+            Task::Endpoint(listener, clock) => {
+                serve_senders(&rt, alloc, passes, listener, clock, gate)
             }
         }
     }
@@ -151,15 +149,42 @@ fn serve_sessions<R: Wait + Copy, B: Bell, L: Listener, C: Clock + Drop, G: Draw
     passes
 }
 
+// The router of the paths that are served, as soon as there is memory for it. `None` comes only after the gate's stop.
+fn paths_of<R: Wait, L: Listener>(
+    rt: &R,
+    alloc: Global,
+    listener: &mut L,
+    gate: &mut StopGate,
+) -> Option<Paths> {
+    for _ in rt.forever() {
+        if let Ok(paths) = Paths::new(alloc) {
+            return Some(paths);
+        }
+        if gate.stop() {
+            return None;
+        }
+        listener.wait(true);
+    }
+    unreachable!()
+}
+
 // Runs one loop of an endpoint node.
 fn serve_senders<R: Wait + Copy, B: Bell, L: Listener, C: Clock + Drop>(
     rt: &R,
+    alloc: Global,
+    passes: Passes<R, B>,
     mut listener: Share<R, L>,
-    each: HttpEach<R, B, C>,
-    gate: StopGate,
+    clock: C,
+    mut gate: StopGate,
 ) -> Passes<R, B>
-    ensures { HandsBack (passes_view each.passes) (passes_view result) }
+    requires { IsAbove (passes_view passes) 0 }
+    ensures { HandsBack (passes_view passes) (passes_view result) }
 {
+    let Some(paths) = paths_of(rt, alloc, &mut listener, &mut gate) else {
+        passes.are_honest();
+        return passes;
+    };
+    let each = HttpEach::new(alloc, passes, clock, paths);
     let (each, _) = endpoint_loop(rt, &mut listener, each, gate);
     let passes = each.into_passes();
     passes.are_honest();

@@ -59,7 +59,7 @@ impl ShardBoard {
     pub fn open(alloc: Global, number: u8) -> Result<(ShardBoard, ShardPass), NoMemory>
         ensures { IfOk result (λ r. r.1 ≡ opening_pass r.0 number) }
     {
-        let object = ShardObject::new(Shard::start(alloc, number));
+        let object = ShardObject::new(alloc, Shard::start(alloc, number))?;
         let (board, pass) = Board::new(alloc, object)?;
         Ok((ShardBoard { board }, ShardPass { pass }))
     }

@@ -1,5 +1,5 @@
 //! A shard as an object on which callers take turns.
-ghost use Rattle.std.specs.Prelude.{◌≡◌};
+ghost use Rattle.std.specs.Prelude.{◌≡◌, IfOk};
 
 use push_model::{NoMemory, Reply, Step};
 use shard_core::Shard;
@@ -8,9 +8,11 @@ use std::marker::Model;
 use turn_board::Object;
 
 /// A shard that lies on a board. Contracts see it as its world.
+///
+/// It lies in a box: a turn takes the object out of its slot and puts it back, which then moves a pointer.
 #[derive(Drop)]
 pub struct ShardObject {
-    shard: Shard,
+    shard: Box<Shard>,
 }
 
 impl Model for ShardObject {
@@ -18,15 +20,18 @@ impl Model for ShardObject {
 
     ghost Value = { World };
 
-    ghost view = { λ o. o.shard };
+    ghost view = { λ o. o.shard.value };
 }
 
 impl ShardObject {
-    /// The shard, to be laid on a board.
-    pub fn new(shard: Shard) -> ShardObject
-        ensures { result ≡ shard }
+    /// The shard, to be laid on a board. Where memory is wanted the shard is dropped.
+    pub fn new(alloc: Global, shard: Shard) -> Result<ShardObject, NoMemory>
+        ensures { IfOk result (λ object. object ≡ shard) }
     {
-        ShardObject { shard }
+        match Box::new(alloc, shard) {
+            Ok(shard) => Ok(ShardObject { shard }),
+            Err(_) => Err(NoMemory),
+        }
     }
 
     /// The shard, after it was taken off its board.
@@ -34,7 +39,7 @@ impl ShardObject {
         ensures { result ≡ self }
     {
         let ShardObject { shard } = self;
-        shard
+        Box::into_inner(shard)
     }
 }
 

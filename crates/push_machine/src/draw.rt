@@ -4,6 +4,7 @@ ghost use Rattle.std.specs.Prelude.{None};
 use push_outside::Draw;
 use rand_chacha::ChaCha20Rng;
 use rand_core::{Rng, SeedableRng};
+use std::random::RandomSource;
 
 /// The bytes of a ChaCha20 generator (RFC 8439) with this seed. A fork has a seed of its own, which the generator draws.
 #[derive(Drop)]
@@ -21,6 +22,15 @@ impl SeededDraw {
             generator: ChaCha20Rng::from_seed(seed),
             word: 0,
             left: 0,
+        }
+    }
+
+    /// The bytes of a seed that this machine draws, or `None` where it gives none.
+    pub fn seeded(machine: &impl RandomSource) -> Option<SeededDraw> {
+        let mut seed = [0; 32];
+        match machine.fill_bytes(&mut seed) {
+            Ok(()) => Some(SeededDraw::new(seed)),
+            Err(_) => None,
         }
     }
 }

@@ -1,5 +1,5 @@
 //! A spawner without threads.
-ghost use Rattle.std.specs.Prelude.{◌≡◌, IfSome};
+ghost use Rattle.std.specs.Prelude.{◌≡◌, ⊤, IfSome};
 ghost use Rattle.push_outside.specs.Counts.{next_count};
 ghost use Rattle.push_ports.specs.Offers.{NoneFails, count_after};
 ghost use Rattle.push_ports.specs.ListForms.{fails_start, spawner_after_join, spawner_after_start, started_or_not};
@@ -61,6 +61,8 @@ impl<J: Job> Spawner<J> for FailSpawner {
 
     ghost runs = { λ running. running };
 
+    ghost can_start = { λ _. ⊤ };
+
     ghost faults = { λ s. s.faults };
 
     ghost started = { λ s. s.started };
@@ -69,6 +71,7 @@ impl<J: Job> Spawner<J> for FailSpawner {
 
     /// Counts the call, and keeps the job, or drops it as the number says.
     fn start(&mut self, job: J) -> Option<HeldJob<J>>
+        ensures can { ⊤ }
         ensures same_job { IfSome result (λ running. running ≡ job) }
         ensures cause { NoneFails result self.old.faults self.new.faults }
         ensures started { self.new.started ≡ count_after result self.old.started }
@@ -87,6 +90,7 @@ impl<J: Job> Spawner<J> for FailSpawner {
 
     /// Counts the call, and runs the job.
     fn join(&mut self, running: HeldJob<J>) -> J::Out
+        ensures can { ⊤ → ⊤ }
         ensures out { J.gives running result }
         ensures faults { self.new.faults ≡ self.old.faults }
         ensures started { self.new.started ≡ self.old.started }

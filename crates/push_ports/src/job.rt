@@ -20,12 +20,15 @@ pub trait Job: Drop {
 /// Starts jobs, and waits for what they give.
 ///
 /// `faults` is a count of failures that never falls, `started` is how many jobs it started, and `joined` how many it waited for;
-/// each goes up to 2^64 - 1. `runs` is the very job that was started there.
+/// each goes up to 2^64 - 1. `runs` is the very job that was started there. `can_start` is what a start asks of the spawner, and
+/// no call takes it away.
 pub trait Spawner<J: Job> {
     /// A job that was started.
     type Running;
 
     ghost runs: { Self.Running → J };
+
+    ghost can_start: { Self → Type 0 };
 
     ghost faults: { Self → ℕ };
 
@@ -36,6 +39,8 @@ pub trait Spawner<J: Job> {
     /// Starts the job. `None` comes only where `faults` rose, or stood at its last value, and then the job is dropped; else
     /// `faults` stays as it was.
     fn start(&mut self, job: J) -> Option<Self::Running>
+        requires can { can_start self.old }
+        ensures can { can_start self.new }
         ensures same_job { IfSome result (λ running. runs running ≡ job) }
         ensures cause { NoneFails result (faults self.old) (faults self.new) }
         ensures started { started self.new ≡ count_after result (started self.old) }
@@ -43,6 +48,7 @@ pub trait Spawner<J: Job> {
 
     /// Waits for the job's end, and hands back what it gave.
     fn join(&mut self, running: Self::Running) -> J::Out
+        ensures can { can_start self.old → can_start self.new }
         ensures out { J.gives (runs running) result }
         ensures faults { faults self.new ≡ faults self.old }
         ensures started { started self.new ≡ started self.old }

@@ -20,7 +20,9 @@ pub fn launch<J: Job, S: Spawner<J>>(
 ) -> Result<(), Halt>
 where
     S::Running: Drop,
+    requires can { S.can_start spawner.old }
     requires room { vec_len running.old < vec_capacity running.old }
+    ensures can { S.can_start spawner.new }
     ensures launched { Launched S.runs result job running.old.items running.new.items }
     ensures started { S.started spawner.new ≡ started_after result (S.started spawner.old) }
     ensures joined { S.joined spawner.new ≡ S.joined spawner.old }

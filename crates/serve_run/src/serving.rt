@@ -49,6 +49,7 @@ where
     G: Draw + Drop,
     S: Spawner<NodeJob<R, L::B, L, C, G>>,
     S::Running: Drop,
+    requires can { S.can_start spawner.old }
     requires connections { vec_len doors.connections ≤ 8 }
     requires endpoints { vec_len doors.endpoints ≤ 8 }
     requires room { 24 ≤ vec_capacity running.old }
@@ -142,6 +143,7 @@ where
     G: Draw + Drop,
     S: Spawner<NodeJob<R, L::B, L, C, G>>,
     S::Running: Drop,
+    requires can { S.can_start spawner.old }
     requires connections { vec_len doors.connections ≤ 8 }
     requires endpoints { vec_len doors.endpoints ≤ 8 }
     requires room { 24 ≤ vec_capacity running.old }
@@ -201,6 +203,7 @@ where
     G: Draw + Drop,
     S: Spawner<NodeJob<R, L::B, L, C, G>>,
     S::Running: Drop,
+    requires can { S.can_start spawner.old }
     requires connections { vec_len doors.connections ≤ 8 }
     requires endpoints { vec_len doors.endpoints ≤ 8 }
     requires over { IsOver house.exchange (passes_view house.passes) }
@@ -280,6 +283,9 @@ where
     N: Ports,
     S: Spawner<NodeJob<R, <N::L as Listener>::B, N::L, C, G>>,
     S::Running: Drop,
+
+    // Where it may start loops at all.
+    requires can { S.can_start spawner.old }
 
     // What was read and written, by how it ended.
     ensures serves { Serves result (I.left input.old) (I.left input.new) (K.written output.old) (K.written output.new) }

@@ -15,7 +15,6 @@ use node_runner::laws::new_passes_began_no_flight;
 use push_exchange::Passes;
 use push_model::{NoMemory, NodeId};
 use push_outside::{Clock, Draw};
-use push_paths::Paths;
 use push_ports::{Listener, Spawner};
 use session_front::Place;
 use std::alloc::Global;
@@ -65,8 +64,10 @@ where
     G: Draw + Drop,
     S: Spawner<NodeJob<R, L::B, L, C, G>>,
     S::Running: Drop,
+    requires can { S.can_start spawner.old }
     requires room { vec_len running.old < vec_capacity running.old }
     requires beside { EachBeside S.runs (passes_view passes.old) running.old.items }
+    ensures can { S.can_start spawner.new }
     ensures staffed { StaffedBy result S.runs 1 (passes_view passes.old) (passes_view passes.new) running.old.items running.new.items (S.started spawner.old) (S.started spawner.new) }
     ensures joined { S.joined spawner.new ≡ S.joined spawner.old }
     ensures cause { Started result (S.faults spawner.old) (S.faults spawner.new) }
@@ -110,9 +111,11 @@ where
     G: Draw + Drop,
     S: Spawner<NodeJob<R, L::B, L, C, G>>,
     S::Running: Drop,
+    requires can { S.can_start spawner.old }
     requires room { vec_len running.old < vec_capacity running.old }
     requires beside { EachBeside S.runs (passes_view passes.old) running.old.items }
     requires empty { IsEmpty (passes_view passes.old) }
+    ensures can { S.can_start spawner.new }
     ensures staffed { StaffedBy result S.runs 1 (passes_view passes.old) (passes_view passes.new) running.old.items running.new.items (S.started spawner.old) (S.started spawner.new) }
     ensures joined { S.joined spawner.new ≡ S.joined spawner.old }
     ensures cause { Started result (S.faults spawner.old) (S.faults spawner.new) }
@@ -124,11 +127,8 @@ where
     let Ok((theirs, gate)) = equip::<R, L>(alloc, passes, gate) else {
         return Err(Halt::NoMemory);
     };
-    let Ok(paths) = Paths::new(alloc) else {
-        return Err(Halt::NoMemory);
-    };
     new_passes_began_no_flight();
-    let job = NodeJob::endpoint(rt, alloc, theirs, share, *clock, paths, gate);
+    let job = NodeJob::endpoint(rt, alloc, theirs, share, *clock, gate);
     launch::<NodeJob<R, L::B, L, C, G>, S>(spawner, running, job)
 }
 
@@ -151,9 +151,11 @@ where
     G: Draw + Drop,
     S: Spawner<NodeJob<R, L::B, L, C, G>>,
     S::Running: Drop,
+    requires can { S.can_start spawner.old }
     requires room { vec_len running.old + 1 < vec_capacity running.old }
     requires beside { EachBeside S.runs (passes_view passes.old) running.old.items }
     requires empty { IsEmpty (passes_view passes.old) }
+    ensures can { S.can_start spawner.new }
     ensures staffed { StaffedBy result S.runs 2 (passes_view passes.old) (passes_view passes.new) running.old.items running.new.items (S.started spawner.old) (S.started spawner.new) }
     ensures joined { S.joined spawner.new ≡ S.joined spawner.old }
     ensures cause { Started result (S.faults spawner.old) (S.faults spawner.new) }
@@ -193,9 +195,11 @@ where
     G: Draw + Drop,
     S: Spawner<NodeJob<R, L::B, L, C, G>>,
     S::Running: Drop,
+    requires can { S.can_start spawner.old }
     requires nodes { vec_len listeners ≤ 8 }
     requires room { vec_len running.old + vec_len listeners ≤ vec_capacity running.old }
     requires beside { EachBeside S.runs (passes_view passes.old) running.old.items }
+    ensures can { S.can_start spawner.new }
     ensures staffed { StaffedBy result S.runs (vec_len listeners) (passes_view passes.old) (passes_view passes.new) running.old.items running.new.items (S.started spawner.old) (S.started spawner.new) }
     ensures joined { S.joined spawner.new ≡ S.joined spawner.old }
     ensures cause { Started result (S.faults spawner.old) (S.faults spawner.new) }
@@ -235,6 +239,7 @@ where
     G: Draw + Drop,
     S: Spawner<NodeJob<R, L::B, L, C, G>>,
     S::Running: Drop,
+    requires can { S.can_start spawner.old }
     requires room { vec_len running.old + (vec_len listeners + vec_len listeners) ≤ vec_capacity running.old }
     requires beside { EachBeside S.runs (passes_view passes.old) running.old.items }
     requires empty { IsEmpty (passes_view passes.old) }

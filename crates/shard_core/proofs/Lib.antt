@@ -7,5 +7,6 @@ mod Steps
 mod Lists
 mod DueCells
 mod Owners
+mod Ending
 mod FlightOwners
 mod TokenOwners

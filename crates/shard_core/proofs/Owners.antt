@@ -1,6 +1,6 @@
 -- An index that names the user of each thing that a cell has, as the cells change and as the index does.
-use Rattle.std.proofs.Common.{◌≡◌, ℕ, Bool, true, false, cond, List, refl, ap, sym, subst, ◌∙◌, arith}
-use Rattle.std.specs.Prelude.{Option, Some, None, IfSome, option_map, find, if◌then◌else◌}
+use Rattle.std.proofs.Common.{◌≡◌, ℕ, Bool, true, false, cond, ◌⊎◌, inl, inr, List, refl, ap, sym, subst, ◌∙◌, arith}
+use Rattle.std.specs.Prelude.{Option, Some, None, IfSome, is_some, option_map, find, if◌then◌else◌}
 use Rattle.std.specs.Map.{lookup}
 use Rattle.std.specs.Ordering.{nat_cmp}
 use Rattle.std.specs.BTreeMap.{is_at}
@@ -15,7 +15,7 @@ use Rattle.push_model.proofs.Single.{none_found}
 use Rattle.push_model.proofs.Entries.{at_same, lookup_in}
 use Rattle.push_model.proofs.Reached.{reached_there}
 use Rattle.shard_core.specs.Made.{Puts}
-use Rattle.shard_core.specs.Owners.{IsComplete, passing, owned}
+use Rattle.shard_core.specs.Owners.{IsComplete, IsHeld, IsSound, NamesHolder, if_held, passing, owned}
 
 at_true : (n k : ℕ) → is_at (nat_cmp n) k ≡ true → k ≡ n
 at_true n k e = grind (arith, nat_tests)
@@ -168,3 +168,120 @@ module _ {K : Type 0} (has : K → Cell → Bool) where
       owned (has k) (owner k) es ≡ option_map (λ e. e.1) (find (λ e. has k e.1) w.cells)
   owned_first owner k w es s r h =
       ap (owned (has k) (owner k)) s ∙ owned_by owner k w (find (λ e. has k e.1) w.cells) r (subst (IsComplete has owner) s h) refl
+
+  -- ---- an index that names only holders
+
+  held_found : (k : K) (u : Uaid) (o : Option Cell) → IsHeld (has k) o → has k (found_or_empty o u) ≡ true
+  held_found k u None h = absurd h
+  held_found k u (Some c) h = h
+
+  held_put : (k : K) (v : Cell) (b there : Bool) (o : Option Cell) → IsHeld (has k) o → (b ≡ true → (has k v ≡ true) × (there ≡ true)) →
+      IsHeld (has k) (if b then (if there then Some v else None) else o)
+  held_put k v true true o old new = (new refl).0
+  held_put k v true false o old new = let there = (new refl).1 in absurd (cc there)
+  held_put k v false there o old new = old
+
+  named_put : (u : Uaid) (v : Cell) (es fs : List (ℕ × Cell)) (k : K) (o : Option ℕ) → Puts u v es fs →
+      (has k (cell_at es u) ≡ true → (has k v ≡ true) × (is_there v ≡ true)) → IfSome o (λ n. IsHeld (has k) (lookup (is_at (nat_cmp n)) es)) →
+      IfSome o (λ n. IsHeld (has k) (lookup (is_at (nat_cmp n)) fs))
+  named_put u v es fs k None p kept h = tt
+  named_put u v es fs k (Some n) p kept h =
+      subst (IsHeld (has k)) (sym (p.updates n))
+      (held_put k v (is_at (nat_cmp u.0) n) (is_there v) (lookup (is_at (nat_cmp n)) es) h
+      (λ e. kept (held_found k u (lookup (is_at (nat_cmp u.0)) es) (subst (λ (m : ℕ). IsHeld (has k) (lookup (is_at (nat_cmp m)) es)) (at_true u.0 n e) h))))
+
+  -- another cell in the place of one, which has the thing if that had it
+  pub holder_put : (owner : K → Option ℕ) (u : Uaid) (v : Cell) (es fs : List (ℕ × Cell)) (k : K) → Puts u v es fs →
+      (has k (cell_at es u) ≡ true → (has k v ≡ true) × (is_there v ≡ true)) → NamesHolder has owner es k → NamesHolder has owner fs k
+  holder_put owner u v es fs k p kept h = named_put u v es fs k (owner k) p kept h
+
+  held_mapped : (f : Cell → Cell) (k : K) (o : Option Cell) → ((c : Cell) → has k (f c) ≡ has k c) → IsHeld (has k) o → IsHeld (has k) (option_map f o)
+  held_mapped f k None same h = h
+  held_mapped f k (Some c) same h = same c ∙ h
+
+  named_each : (f : Cell → Cell) (es : List (ℕ × Cell)) (k : K) (o : Option ℕ) → ((c : Cell) → has k (f c) ≡ has k c) →
+      IfSome o (λ n. IsHeld (has k) (lookup (is_at (nat_cmp n)) es)) → IfSome o (λ n. IsHeld (has k) (lookup (is_at (nat_cmp n)) (each f es)))
+  named_each f es k None same h = tt
+  named_each f es k (Some n) same h =
+      subst (IsHeld (has k)) (sym (lookup-map_values f (is_at (nat_cmp n)) es)) (held_mapped f k (lookup (is_at (nat_cmp n)) es) same h)
+
+  -- every cell, where f leaves what a cell has
+  pub sound_each : (owner : K → Option ℕ) (f : Cell → Cell) (es : List (ℕ × Cell)) → ((k : K) (c : Cell) → has k (f c) ≡ has k c) →
+      IsSound has owner es → IsSound has owner (each f es)
+  sound_each owner f es same h = λ k. named_each f es k (owner k) (same k) (h k)
+
+  passes_by : (c : Cell) (b : Bool) → is_some (if b then Some c else None) ≡ true → b ≡ true
+  passes_by c true e = refl
+  passes_by c false e = e
+
+  held_passing : (p : Cell → Bool) (o : Option Cell) → is_some (passing p o) ≡ true → IsHeld p o
+  held_passing p None e = absurd (cc e)
+  held_passing p (Some c) e = passes_by c (p c) e
+
+  named_held : (p : Cell → Bool) (o : Option ℕ) (es : List (ℕ × Cell)) (b : Bool) → is_some (owned p o es) ≡ b →
+      IfSome (if b then o else None) (λ n. IsHeld p (lookup (is_at (nat_cmp n)) es))
+  named_held p None es true e = tt
+  named_held p None es false e = tt
+  named_held p (Some n) es true e = held_passing p (lookup (is_at (nat_cmp n)) es) e
+  named_held p (Some n) es false e = tt
+
+  holder_left : (owner after : K → Option ℕ) (k q : K) (b : Bool) (es : List (ℕ × Cell)) → (b ≡ true → q ≡ k) →
+      after q ≡ (if b then if_held (has k) (owner k) es else owner q) → (b ≡ false → NamesHolder has owner es q) → NamesHolder has after es q
+  holder_left owner after k q true es one e old =
+      subst (λ (o : Option ℕ). IfSome o (λ n. IsHeld (has q) (lookup (is_at (nat_cmp n)) es))) (sym e)
+      (subst (λ (z : K). IfSome (if_held (has k) (owner k) es) (λ n. IsHeld (has z) (lookup (is_at (nat_cmp n)) es))) (sym (one refl))
+      (named_held (has k) (owner k) es (is_some (owned (has k) (owner k) es)) refl))
+  holder_left owner after k q false es one e old =
+      subst (λ (o : Option ℕ). IfSome o (λ n. IsHeld (has q) (lookup (is_at (nat_cmp n)) es))) (sym e) (old refl)
+
+  -- the index after k was forgotten, unless the cell that it names has it
+  abbrev pub Forgot : K → (K → Bool) → (K → Option ℕ) → (K → Option ℕ) → List (ℕ × Cell) → Type 0
+  Forgot k same owner after es = (q : K) → after q ≡ (if same q then if_held (has k) (owner k) es else owner q)
+
+  -- it was taken out
+  pub forgot_gone : (owner after : K → Option ℕ) (k : K) (same : K → Bool) (es : List (ℕ × Cell)) → ((q : K) → after q ≡ cond (same q) None (owner q)) →
+      owned (has k) (owner k) es ≡ None → Forgot k same owner after es
+  forgot_gone owner after k same es changes none q =
+      changes q ∙ ap (λ (o : Option Cell). if same q then (if is_some o then owner k else None) else owner q) (sym none)
+
+  named_same : (owner : K → Option ℕ) (k q : K) (b : Bool) → (b ≡ true → q ≡ k) → owner q ≡ (if b then owner k else owner q)
+  named_same owner k q true one = ap owner (one refl)
+  named_same owner k q false one = refl
+
+  -- or all stay
+  pub forgot_kept : (owner : K → Option ℕ) (k : K) (same : K → Bool) (es : List (ℕ × Cell)) → ((q : K) → same q ≡ true → q ≡ k) →
+      is_some (owned (has k) (owner k) es) ≡ true → Forgot k same owner owner es
+  forgot_kept owner k same es one some q =
+      named_same owner k q (same q) (one q)
+      ∙ ap (λ (b : Bool). if same q then (if b then owner k else None) else owner q) (sym some)
+
+  -- it is sound, if it was so for all others
+  pub forgot_sound : (owner after : K → Option ℕ) (k : K) (same : K → Bool) (es : List (ℕ × Cell)) → ((q : K) → same q ≡ true → q ≡ k) →
+      Forgot k same owner after es → ((q : K) → same q ≡ false → NamesHolder has owner es q) → IsSound has after es
+  forgot_sound owner after k same es one left old = λ q. holder_left owner after k q (same q) es (one q) (left q) (old q)
+
+  other_holder : (o : Option K) (k q : K) (same : K → Bool) (P : Type 0) → o ≡ Some k → same k ≡ true → same q ≡ false → (o ≡ Some q) ⊎ P → P
+  other_holder o k q same P is itself other (inl e) =
+      let one : k ≡ q = cc in
+      let there : same q ≡ true = ap same (sym one) ∙ itself in
+      absurd (cc (other, there))
+  other_holder o k q same P is itself other (inr p) = p
+
+  -- as it was for all but k
+  pub lost_sound : (owner after : K → Option ℕ) (o : Option K) (k : K) (same : K → Bool) (es : List (ℕ × Cell)) → o ≡ Some k → same k ≡ true →
+      ((q : K) → same q ≡ true → q ≡ k) → Forgot k same owner after es → ((q : K) → (o ≡ Some q) ⊎ NamesHolder has owner es q) → IsSound has after es
+  lost_sound owner after o k same es is itself one left held =
+      forgot_sound owner after k same es one left (λ q other. other_holder o k q same (NamesHolder has owner es q) is itself other (held q))
+
+  none_lost : (o : Option K) (q : K) (P : Type 0) → o ≡ None → (o ≡ Some q) ⊎ P → P
+  none_lost o q P is (inl e) = absurd (cc (is, e))
+  none_lost o q P is (inr p) = p
+
+  -- or for all
+  pub unlost_sound : (owner : K → Option ℕ) (o : Option K) (es : List (ℕ × Cell)) → o ≡ None →
+      ((q : K) → (o ≡ Some q) ⊎ NamesHolder has owner es q) → IsSound has owner es
+  unlost_sound owner o es is held = λ q. none_lost o q (NamesHolder has owner es q) is (held q)
+
+  -- whom it names for other things doesn't matter
+  pub holder_same : (owner after : K → Option ℕ) (es : List (ℕ × Cell)) (k : K) → after k ≡ owner k → NamesHolder has owner es k → NamesHolder has after es k
+  holder_same owner after es k e h = subst (λ (o : Option ℕ). IfSome o (λ n. IsHeld (has k) (lookup (is_at (nat_cmp n)) es))) (sym e) h

@@ -1,5 +1,5 @@
 -- Searches and sums over the values of a map's entries.
-use Rattle.std.proofs.Common.{◌≡◌, ℕ, ◌+◌, Bool, true, false, cond, Bor, List, [], ◌∷◌, refl, ap, ◌∙◌}
+use Rattle.std.proofs.Common.{◌≡◌, ℕ, ◌+◌, Bool, true, false, cond, Bor, List, [], ◌∷◌, refl, ap, sym, ◌∙◌}
 use Rattle.std.specs.Prelude.{Option, Some, None, is_some, Result, Ok, Err, IfOk, OnErr, find, fold, sum_by, count_by, ◌||◌}
 use Rattle.std.specs.Option.{option_copied, option_map}
 use Rattle.std.specs.List.{list_any}
@@ -44,6 +44,10 @@ ok_map (Err e) f p = tt
 pub copied_none : {X : Type 0} (r : Option (Bor X)) → is_some r ≡ false → option_copied r ≡ None
 copied_none None e = refl
 copied_none (Some x) e = absurd (cc e)
+
+pub copied_there : {X : Type 0} (r : Option (Bor X)) (o : Option X) → option_copied r ≡ o → is_some r ≡ true → is_some o ≡ true
+copied_there None o e s = absurd (cc s)
+copied_there (Some x) o e s = ap is_some (sym e)
 
 -- and one that gives something
 pub copied_some : {X : Type 0} (r : Option (Bor X)) (o : Option (ℕ × X)) → option_copied r ≡ option_map (λ e. e.1) o → is_some r ≡ is_some o

@@ -8,7 +8,7 @@ ghost use Rattle.push_model.specs.FlightSteps.{begin};
 ghost use Rattle.push_model.specs.Worlds.{cell_at, has_flight_in};
 ghost use Rattle.push_model.specs.Steps.{action, IsOnCell, OnUser, Costs};
 ghost use Rattle.shard_core.specs.Made.{StepsTo};
-ghost use Rattle.shard_core.specs.Owners.{has_flight, flight_owner, IsComplete};
+ghost use Rattle.shard_core.specs.Owners.{has_flight, flight_owner, IsComplete, IsSound};
 ghost use Rattle.shard_core.specs.Shards.{HasUser};
 
 use crate::flight_owners::{FlightOwners, forget_flight};
@@ -82,6 +82,7 @@ pub(crate) fn begin_owned(
     ensures ok { IfOk result (λ reply. StepsTo (OnUser uaid (begin op token message)) uaid cells.old.entries cells.new.entries reply) }
     ensures err { OnErr result ((cells.new.entries ≡ cells.old.entries) × Costs (OnUser uaid (begin op token message)) (cell_at cells.old.entries uaid)) }
     ensures complete { IsComplete has_flight (flight_owner owners.new.entries) cells.new.entries }
+    ensures sound { IsSound has_flight (flight_owner owners.old.entries) cells.old.entries → IsSound has_flight (flight_owner owners.new.entries) cells.new.entries }
 {
     if owners.insert((op.pass, op.k), uaid.0).is_err() {
         return Err(NoMemory);

@@ -20,7 +20,7 @@ ghost use Rattle.shard_core.specs.Made.{DoesAt, CostsAt, DoesOnFlight, CostsOnFl
 
 use crate::cells::{count_cells, held_on, idle_users, kill_cells, orphaned_on, orphaned_users};
 use crate::dues::{NEVER, earlier, later, soonest_at, soonest_of, tick_cells};
-use crate::flight_owners::{FlightOwners, flight_cell, forget_flight};
+use crate::flight_owners::{FlightOwners, flight_cell, forget_ended};
 use crate::places::begin_owned;
 use crate::token_owners::{TokenOwners, token_cell};
 use crate::token_steps::{lacks, step_owned};
@@ -43,9 +43,9 @@ pub(crate) struct State {
     cells: BTreeMap<u128, UserCell>,
     // at no moment in seconds below it is a row due
     soonest: u64,
-    // names the user of each flight
+    // names the user of each flight, and no others
     flights: FlightOwners,
-    // and of each token
+    // names the user of each token
     tokens: TokenOwners,
     tally: Tally,
 }
@@ -54,13 +54,13 @@ impl Model for State {
     ghost use Rattle.std.specs.Prelude.{◌≤◌, ◌^◌};
     ghost use Rattle.push_model.specs.Worlds.{World};
     ghost use Rattle.shard_core.specs.Dues.{NoneDueIn};
-    ghost use Rattle.shard_core.specs.Owners.{has_flight, flight_owner, holds, token_owner, IsComplete};
+    ghost use Rattle.shard_core.specs.Owners.{has_flight, flight_owner, holds, token_owner, IsComplete, IsSound};
 
     ghost Value = { World };
 
     ghost view = { λ s. record { shard = s.number; clock = s.clock; next = s.next; down = s.down; cells = s.cells.entries; tally = s.tally } };
 
-    ghost invariant = { λ s. (s.next ≤ 2 ^ 63) × NoneDueIn s.soonest s.cells.entries × IsComplete has_flight (flight_owner s.flights.entries) s.cells.entries × IsComplete holds (token_owner s.tokens.entries) s.cells.entries };
+    ghost invariant = { λ s. (s.next ≤ 2 ^ 63) × NoneDueIn s.soonest s.cells.entries × IsComplete has_flight (flight_owner s.flights.entries) s.cells.entries × IsComplete holds (token_owner s.tokens.entries) s.cells.entries × IsSound has_flight (flight_owner s.flights.entries) s.cells.entries };
 }
 
 /// Past the last message number.
@@ -163,7 +163,7 @@ impl State {
         }
     }
 
-    // makes a step on the cell of that user
+    // makes a step on the cell of that user; a flight that ends with it leaves the index
     fn on_cell(&mut self, alloc: Global, uaid: Uaid, asked: &Step) -> Result<Reply, NoMemory>
         requires kind { IsOnCell (action self.old.clock asked.now) }
         requires free { BringsFree asked.now uaid self.old.cells }
@@ -173,6 +173,7 @@ impl State {
         let tokens = &mut self.tokens;
         let reply = step_owned(&mut self.cells, tokens, alloc, self.clock, uaid, asked)?;
         self.soonest = earlier(self.soonest, soonest_at(&self.cells, uaid));
+        forget_ended(&self.cells, &mut self.flights, asked, &reply);
         Ok(reply)
     }
 
@@ -244,14 +245,7 @@ impl State {
         token_cell(&self.cells, &self.tokens, token)
     }
 
-    // takes the flight out of the index, if it has ended
-    fn forget_flight(&mut self, op: Op)
-        ensures { self.new ≡ self.old }
-    {
-        forget_flight(&self.cells, &mut self.flights, op);
-    }
-
-    // makes a step on the cell that has the flight, which leaves the index with the reply that says that it ended
+    // makes a step on the cell that has the flight
     fn on_flight(&mut self, alloc: Global, op: Op, asked: &Step) -> Result<Reply, NoMemory>
         requires reached { IsReached self.old }
         requires kind { IsOnCell (action self.old.clock asked.now) }
@@ -263,11 +257,7 @@ impl State {
             return Ok(Reply::NoFlight);
         };
         let uaid = cell.uaid();
-        let reply = self.on_cell(alloc, uaid, asked)?;
-        if matches!(reply, Reply::End(_)) {
-            self.forget_flight(op);
-        }
-        Ok(reply)
+        self.on_cell(alloc, uaid, asked)
     }
 
     fn begin(&mut self, alloc: Global, op: Op, token: Token, ask: Ask) -> Result<Reply, NoMemory>

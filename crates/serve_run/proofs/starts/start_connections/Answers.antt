@@ -6,7 +6,7 @@ use Rattle.serve_run.proofs.starts.start_connections.Goals as goal
 
 pub loop-listener-init : goal.loop-listener-init
 loop-listener-init g c =
-    (0, omega arith, staffed_start g.S.Spawner.runs (passes_view c.args.passes.now) c.args.running.now.items (g.S.Spawner.started c.args.spawner.now) c.requires.beside, refl, refl, omega arith)
+    (0, omega arith, staffed_start g.S.Spawner.runs (passes_view c.args.passes.now) c.args.running.now.items (g.S.Spawner.started c.args.spawner.now) c.requires.beside, refl, refl, omega arith, c.requires.can)
 
 pub returns-in-Err-clause-staffed : goal.returns-in-Err-clause-staffed
 returns-in-Err-clause-staffed g c =
@@ -36,4 +36,5 @@ loop-listener-preserved g c =
       c.start_connection.ensures.joined ∙ i.3,
       c.in_default-start_connection.ensures.cause ∙ i.4,
       (let k = i.5 in let l = c.start_connection.ensures.room in omega arith),
+      c.start_connection.ensures.can,
     )

@@ -17,12 +17,6 @@ returns-in_default-equip-clause-staffed g c =
     let w = passes_view c.equip.new.passes in
     staffed_none g.S.Spawner.runs NoMemory 1 v w c.args.running.now.items (g.S.Spawner.started c.args.spawner.now) (omega arith) c.requires.beside (same_alike v w c.equip.ensures.stays.same)
 
-pub returns-in_default-new-clause-staffed : goal.returns-in_default-new-clause-staffed
-returns-in_default-new-clause-staffed g c =
-    let v = passes_view c.args.passes.now in
-    let w = passes_view c.equip.new.passes in
-    staffed_none g.S.Spawner.runs NoMemory 1 v w c.args.running.now.items (g.S.Spawner.started c.args.spawner.now) (omega arith) c.requires.beside (same_alike v w c.equip.ensures.stays.same)
-
 pub endpoint-job-requires : goal.endpoint-job-requires
 endpoint-job-requires g c =
     let v = passes_view c.args.passes.now in

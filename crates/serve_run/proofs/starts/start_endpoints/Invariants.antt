@@ -11,6 +11,7 @@ invariant-loop-listener g l =
     × (g.S.Spawner.joined l.spawner ≡ g.S.Spawner.joined l.fn.spawner)
     × (g.S.Spawner.faults l.spawner ≡ g.S.Spawner.faults l.fn.spawner)
     × (vec_capacity l.fn.running ≤ vec_capacity l.running)
+    × g.S.Spawner.can_start l.spawner
 
 abbrev pub decreases-loop-listener : goal.decreases-loop-listener
 decreases-loop-listener g l = vec_len l.listeners

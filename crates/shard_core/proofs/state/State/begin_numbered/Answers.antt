@@ -30,4 +30,5 @@ invariant_of-self-2 c =
       due_begun c.args.uaid c.args.op c.args.token m c.in_ok-reply.reply s.soonest s.cells.entries c.begin_owned.new.cells.entries c.in_ok-reply.ensures.ok c.self.invariant.1,
       c.begin_owned.ensures.complete,
       tokens_begun (token_owner s.tokens.entries) c.args.uaid c.args.op c.args.token m s.cells.entries c.begin_owned.new.cells.entries c.in_ok-reply.reply c.in_ok-reply.ensures.ok c.self.invariant.3,
+      c.begin_owned.ensures.sound c.self.invariant.4,
     )

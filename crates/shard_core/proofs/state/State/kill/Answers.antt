@@ -5,10 +5,10 @@ use Rattle.push_model.specs.Tallies.{capped}
 use Rattle.push_model.specs.NodeSteps.{killed, held_on, orphaned_on}
 use Rattle.push_model.specs.declared.reply.Reply.TheVariants.{Killed}
 use Rattle.shard_core.specs.Dues.{NoneDueIn}
-use Rattle.shard_core.specs.Owners.{IsComplete, has_flight, flight_owner, holds, token_owner}
+use Rattle.shard_core.specs.Owners.{IsComplete, IsSound, has_flight, flight_owner, holds, token_owner}
 use Rattle.push_model.proofs.Narrow.{killed_names}
 use Rattle.shard_core.proofs.DueCells.{due_each, due_killed}
-use Rattle.shard_core.proofs.Owners.{complete_each}
+use Rattle.shard_core.proofs.Owners.{complete_each, sound_each}
 use Rattle.shard_core.proofs.Values.{sum_by-values}
 use Rattle.shard_core.proofs.state.State.kill.Goals as goal
 
@@ -36,4 +36,5 @@ invariant_of-self c =
       subst (NoneDueIn s.soonest) (sym c.kill_cells.ensures) (due_each (killed n) s.soonest s.cells.entries (λ d h. due_killed n s.soonest d h) c.self.invariant.1),
       subst (IsComplete has_flight owner) (sym c.kill_cells.ensures) (complete_each has_flight owner (killed n) s.cells.entries (λ k d. refl) c.self.invariant.2),
       subst (IsComplete holds tokens) (sym c.kill_cells.ensures) (complete_each holds tokens (killed n) s.cells.entries (λ k d. ap (list_any (is_token k)) (killed_names n d).channels) c.self.invariant.3),
+      subst (IsSound has_flight owner) (sym c.kill_cells.ensures) (sound_each has_flight owner (killed n) s.cells.entries (λ k d. refl) c.self.invariant.4),
     )

@@ -5,10 +5,10 @@ use Rattle.push_model.specs.Cells.{Cell, is_token}
 use Rattle.push_model.specs.ClockSteps.{ticked}
 use Rattle.push_model.specs.Reached.{IsReached}
 use Rattle.push_model.specs.Worlds.{each}
-use Rattle.shard_core.specs.Owners.{IsComplete, has_flight, flight_owner, holds, token_owner}
+use Rattle.shard_core.specs.Owners.{IsComplete, IsSound, has_flight, flight_owner, holds, token_owner}
 use Rattle.push_model.proofs.Narrow.{ticked_names}
 use Rattle.shard_core.proofs.DueCells.{none_ticked}
-use Rattle.shard_core.proofs.Owners.{complete_each}
+use Rattle.shard_core.proofs.Owners.{complete_each, sound_each}
 use Rattle.shard_core.proofs.state.State.tick.Goals as goal
 
 pub returns-then-seconds-self : goal.returns-then-seconds-self
@@ -35,4 +35,5 @@ invariant_of-self-2 c =
       c.soonest_of-self-inside.ensures,
       subst (IsComplete has_flight owner) (sym c.tick_cells.ensures) (complete_each has_flight owner (ticked c.later-now.result) s.cells.entries (λ k d. refl) c.self.invariant.2),
       subst (IsComplete holds tokens) (sym c.tick_cells.ensures) (complete_each holds tokens (ticked c.later-now.result) s.cells.entries (λ k d. ap (list_any (is_token k)) (ticked_names c.later-now.result d).channels) c.self.invariant.3),
+      subst (IsSound has_flight owner) (sym c.tick_cells.ensures) (sound_each has_flight owner (ticked c.later-now.result) s.cells.entries (λ k d. refl) c.self.invariant.4),
     )
