@@ -8,7 +8,7 @@ use Rattle.std.proofs.lemmas.List.{take_all, length-drop}
 use Rattle.std.proofs.lemmas.List.Folds.{list_any_more}
 use Rattle.std.proofs.lemmas.List.Sums.{position_or_len_is}
 use Rattle.std.proofs.lemmas.Option.{get_or_from_slice_get, slice_get_within}
-use Rattle.http_wire.specs.declared.head.Line.{Line}
+use Rattle.http_wire.specs.Lines.{Line}
 use Rattle.http_front.specs.Connections.{is_close_line, is_comma}
 
 apart : (b : ℕ) → (b ≡ 44 → ⊥) → is_comma b ≡ false

@@ -2,7 +2,7 @@
 use Rattle.std.specs.Prelude.{ℕ, Bool, ◌==◌, ◌||◌, ◌&&◌, nat_le, List, [], ◌∷◌, take, drop, length, if◌then◌else◌, codes}
 use Rattle.std.specs.List.{list_all, list_any, slice_split}
 use Rattle.std.specs.Str.{str_to_ascii_lowercase, bytes_eq}
-use Rattle.http_wire.specs.declared.head.Line.{Line}
+use Rattle.http_wire.specs.Lines.{Line}
 use Rattle.http_wire.specs.HeadValue.{HeadValue}
 
 -- a space or a tab

@@ -6,7 +6,7 @@ use Rattle.httparse.specs.declared.spans.HeaderSpan.{HeaderSpan}
 use Rattle.httparse.specs.declared.spans.RequestSpans.{RequestSpans}
 use Rattle.httparse.specs.Spans.{header_bytes, name_and_value, AreFieldsAt, IsRequestAt}
 use Rattle.httparse.specs.Grammar.{Field, RequestHead, print_request}
-use Rattle.http_wire.specs.declared.head.Line.{Line}
+use Rattle.http_wire.specs.Lines.{Line}
 use Rattle.http_wire.specs.declared.framing.Framing.{Framing}
 use Rattle.http_wire.specs.HeadValue.{HeadValue}
 use Rattle.http_wire.specs.Heads.{IsHead, line_of, lines_of, value_of, line_at, lines_at, head_at}

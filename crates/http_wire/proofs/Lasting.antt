@@ -4,8 +4,8 @@ use Rattle.std.proofs.lemmas.List.{drop-append-le}
 use Rattle.httparse.specs.Grammar.{print_request}
 use Rattle.http_bytes.specs.Breaks.{Behind, IsFull, NeverOrFull}
 use Rattle.http_bytes.specs.Forms.{IsLineOpen, IsLineBad, IsDataBad, IsCrlf, IsCrlfBad, AreTrailersOpen, AreTrailersBad, IsHeadBad}
-use Rattle.http_wire.specs.Chunks.{InData, IsChunkBad, BehindChunks, AreChunksBad, BehindLast, IsChunkedBad}
-use Rattle.http_wire.specs.Requests.{IsUnframed, BehindHead, IsBodyBad, IsBad}
+use Rattle.http_wire.specs.Chunks.{IsChunkBad, AreChunksBad, BehindLast, IsChunkedBad}
+use Rattle.http_wire.specs.Requests.{IsUnframed, IsBodyBad, IsBad}
 use Rattle.http_wire.specs.declared.framing.Framing.{Framing}
 use Rattle.http_wire.specs.declared.framing.Framing.TheVariants.{Length, Chunked}
 

@@ -1,4 +1,5 @@
 mod HeadLemmas
+mod TextLemmas
 mod Beginning
 mod Chunking
 mod Putting

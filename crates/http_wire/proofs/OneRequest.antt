@@ -10,7 +10,7 @@ use Rattle.http_wire.specs.Heads.{lines_of, value_of}
 use Rattle.http_wire.specs.Framings.{framing_of}
 use Rattle.http_wire.specs.Chunks.{Chunk, IsChunk, print_chunks, data_of, IsChunkedText, IsOverlongText}
 use Rattle.http_wire.specs.Requests.{IsBody, IsRequest, is_empty_body}
-use Rattle.http_wire.specs.declared.head.Line.{Line}
+use Rattle.http_wire.specs.Lines.{Line}
 use Rattle.http_wire.specs.declared.framing.Framing.{Framing}
 use Rattle.http_wire.specs.declared.framing.Framing.TheVariants.{Length, Chunked}
 use Rattle.http_wire.specs.declared.body.Body.{Body}

@@ -1,15 +1,15 @@
 -- Open bytes are not bad, but for what the grammar leaves undecided.
-use Rattle.std.proofs.Common.{◌≡◌, ℕ, ◌+◌, ◌≤◌, ◌<◌, inl, inr, List, [], ◌∷◌, ◌++◌, length, drop, refl, sym, ap, ◌∙◌, append_assoc, length-append, arith, All, Option, Some, None, subst, zero-add}
+use Rattle.std.proofs.Common.{◌≡◌, ℕ, ◌+◌, ◌≤◌, inl, inr, List, [], ◌∷◌, ◌++◌, length, drop, refl, sym, ap, ◌∙◌, append_assoc, length-append, arith, All, subst, zero-add}
 use Rattle.std.proofs.lemmas.List.{append_cancel_left, append-nil}
 use Rattle.std.proofs.lemmas.List.Elements.{All-head, All-tail}
 use Rattle.httparse.specs.Ascii.{crlf_bytes}
-use Rattle.httparse.specs.Grammar.{ChunkLine, print_chunk_line, chunk_size, print_request, RequestHead}
+use Rattle.httparse.specs.Grammar.{ChunkLine, print_chunk_line, chunk_size, RequestHead}
 use Rattle.httparse.proofs.GrammarLemmas.{request_unique}
 use Rattle.http_bytes.specs.Breaks.{IsFull, NeverOrFull, OpenWithin}
 use Rattle.http_bytes.specs.Forms.{IsLineOpen, IsLineBad, IsDataOpen, IsDataBad, IsCrlfOpen, IsCrlfBad, AreTrailersOpen, AreTrailersBad}
 use Rattle.http_wire.specs.Heads.{lines_of}
 use Rattle.http_wire.specs.Framings.{framing_of}
-use Rattle.http_wire.specs.Chunks.{Chunk, IsChunk, IsSizeLine, print_chunks, data_of, InData, IsChunkOpen, IsChunkBad, AreChunksOpen, AreChunksBad, BehindChunks, BehindLast, IsChunkedOpen, IsChunkedBad}
+use Rattle.http_wire.specs.Chunks.{Chunk, IsChunk, IsSizeLine, print_chunks, data_of, InData, IsChunkOpen, IsChunkBad, AreChunksOpen, AreChunksBad, BehindLast, IsChunkedOpen, IsChunkedBad}
 use Rattle.http_wire.specs.Requests.{BehindHead, IsBodyOpen, IsBodyBad, IsOpen, IsBad, AreTrailersUndecided, IsBodyUndecided, IsUndecided}
 use Rattle.http_wire.specs.declared.framing.Framing.{Framing}
 use Rattle.http_wire.specs.declared.framing.Framing.TheVariants.{Length, Chunked}

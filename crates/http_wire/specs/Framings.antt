@@ -4,7 +4,7 @@ use Rattle.std.specs.Str.{str_to_ascii_lowercase, bytes_eq}
 use Rattle.std.specs.Str.Parse.{digits_value}
 use Rattle.http_bytes.specs.Numbers.{is_number}
 use Rattle.http_wire.specs.Heads.{values_of}
-use Rattle.http_wire.specs.declared.head.Line.{Line}
+use Rattle.http_wire.specs.Lines.{Line}
 use Rattle.http_wire.specs.declared.framing.Framing.{Framing}
 use Rattle.http_wire.specs.declared.framing.Framing.TheVariants.{Length, Chunked}
 

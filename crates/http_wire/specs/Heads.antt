@@ -5,7 +5,7 @@ use Rattle.httparse.specs.declared.spans.HeaderSpan.{HeaderSpan}
 use Rattle.httparse.specs.declared.spans.RequestSpans.{RequestSpans}
 use Rattle.httparse.specs.Spans.{span_bytes}
 use Rattle.httparse.specs.Grammar.{Field, field_value, RequestHead, IsRequestHead, print_request}
-use Rattle.http_wire.specs.declared.head.Line.{Line}
+use Rattle.http_wire.specs.Lines.{Line}
 use Rattle.http_wire.specs.declared.head.Lone.{Lone}
 use Rattle.http_wire.specs.declared.head.Lone.TheVariants.{Absent, One, Several}
 use Rattle.http_wire.specs.HeadValue.{HeadValue}

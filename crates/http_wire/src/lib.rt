@@ -12,7 +12,7 @@ mod reply;
 mod request;
 
 pub use body::Body;
-pub use head::{Head, Line, Lone};
+pub use head::{Head, Lone};
 pub use http_bytes::{Rest, WireFault};
 pub use reply::{HttpReply, write_reply};
 pub use request::{Request, next_request};

@@ -1,7 +1,7 @@
 //! Worked examples of the definitions, each for a reader to check at a glance.
 ghost use Rattle.std.specs.Prelude.{◌≡◌, ◌∷◌, [], true, false, Some, None, codes};
 ghost use Rattle.http_wire.specs.declared.framing.Framing.TheVariants.{Chunked, Length};
-ghost use Rattle.http_wire.specs.declared.head.Line.{Line};
+ghost use Rattle.http_wire.specs.Lines.{Line};
 ghost use Rattle.http_wire.specs.Framings.{framing_by, length_value};
 ghost use Rattle.http_wire.specs.Heads.{values_of};
 ghost use Rattle.http_wire.specs.Replies.{allow_line, body_bytes, body_lines, close_line, location_line, phrase, ttl_line};

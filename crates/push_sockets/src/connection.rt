@@ -11,7 +11,7 @@ pub(crate) struct Connection {
     readable: AtomicBool,
     /// There may be room since the last write.
     writable: AtomicBool,
-    /// No wire has it: it waits for the head of its next message.
+    /// No wire has it: it waits for its next message.
     parked: AtomicBool,
     /// Its wire was dropped, and the connection is to end.
     gone: AtomicBool,

@@ -26,9 +26,9 @@ const FIRST: usize = 2;
 const EVENTS: usize = 256;
 /// How many connections are accepted at a time.
 const ACCEPTS: u64 = 64;
-/// How many heads are looked at for one wire.
-const HEADS: u64 = 256;
-/// How many connections may have come after one whose first head isn't whole.
+/// How many arrivals are looked at for one wire.
+const ARRIVALS: u64 = 256;
+/// How many connections may have come after one whose first message isn't whole.
 const LINE: usize = 1024;
 /// How many pieces of news are kept.
 const NEWS: usize = 4096;
@@ -62,7 +62,7 @@ pub(crate) struct Hub<R> {
     /// The places and serial numbers of the last connections that were accepted, in order.
     line: VecDeque<(usize, u64)>,
     /// The places of parked connections that something came on.
-    heads: VecDeque<usize>,
+    arrivals: VecDeque<usize>,
     /// The places of connections that wires have.
     held: VecDeque<usize>,
     /// The places of connections that are to end, and on which something may have come.
@@ -86,7 +86,7 @@ impl<R: Net + Clock + Copy> Hub<R> {
 
     /// Whether an accept would most likely find something that is here already.
     pub(crate) fn has_more(&self) -> bool {
-        self.cut_short || !self.heads.is_empty()
+        self.cut_short || !self.arrivals.is_empty()
     }
 
     /// The next number of a wire that something came for.
@@ -119,8 +119,8 @@ impl<R: Net + Clock + Copy> Hub<R> {
                         let _ = self.news.push_back(number);
                     }
                 }
-                Came::Head => {
-                    let _ = self.heads.push_back(place);
+                Came::Arrival => {
+                    let _ = self.arrivals.push_back(place);
                 }
                 Came::Leftover => {
                     let _ = self.leftovers.push_back(place);
@@ -296,7 +296,7 @@ impl<R: Net + Clock + Copy> Hub<R> {
         self.shorten_line(half);
     }
 
-    // Leaves at most so many in the line, and closes those of the others whose first head isn't whole.
+    // Leaves at most so many in the line, and closes those of the others whose first message isn't whole.
     fn shorten_line(&mut self, longest: usize) {
         for _ in 0..self.line.len() {
             if self.line.len() <= longest {
@@ -318,11 +318,11 @@ impl<R: Net + Clock + Copy> Hub<R> {
         }
     }
 
-    /// The next parked connection whose head is whole, or that ended or failed, with what was read of it, for the wire of this
+    /// The next parked connection whose message is whole, or that ended or failed, with what was read of it, for the wire of this
     /// number.
     pub(crate) fn next(&mut self, number: u64) -> Option<(Arc<Connection>, Vec<u8>)> {
-        for _ in 0..HEADS {
-            let place = self.heads.pop_front()?;
+        for _ in 0..ARRIVALS {
+            let place = self.arrivals.pop_front()?;
             let found = self.offer(place, number);
             if found.is_some() {
                 return found;

@@ -21,7 +21,7 @@ const BUSY: u64 = 4;
 /// A listener at a port of this machine.
 ///
 /// Until its first `wait` an accept waits for at most 50 milliseconds; from then on it doesn't wait, and `wait` does, for at most
-/// a second. A connection whose first head isn't whole is closed after 10 seconds, or once 1,024 others came after it, and a
+/// a second. A connection whose first message isn't whole is closed after 10 seconds, or once 1,024 others came after it, and a
 /// parked one after 75 seconds.
 #[derive(Drop)]
 pub struct SocketListener<R> {
@@ -71,7 +71,7 @@ impl<R: Net + Clock + Copy> SocketListener<R> {
         }
     }
 
-    // The wire of the next head that is here.
+    // The wire of the next message that is here.
     fn next_wire(&mut self) -> Option<SocketWire>
         ensures faults { self.new.faults ≡ self.old.faults }
         ensures lulls { self.new.lulls ≡ self.old.lulls }
@@ -92,7 +92,7 @@ impl<R: Net + Clock + Copy> SocketListener<R> {
         self.hub.take_in(polite).is_ok()
     }
 
-    // Waits for a next head, where nobody else waits, and gives its wire.
+    // Waits for a next message, where nobody else waits, and gives its wire.
     fn wait_for_wire(&mut self) -> Option<SocketWire>
         ensures faults { self.new.faults ≡ self.old.faults }
         ensures lulls { self.new.lulls ≡ self.old.lulls }

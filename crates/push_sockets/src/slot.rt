@@ -1,26 +1,26 @@
 //! What a hub keeps of a connection.
 
 use crate::connection::Connection;
-use crate::head::Head;
+use crate::incoming::Incoming;
 use std::alloc::Global;
 use std::io::{ErrorKind, Read};
 use std::sync::Arc;
 
 /// How many bytes are read at a time.
 const PIECE: usize = 4096;
-/// How many reads are made at a time: enough for a head of the greatest length.
+/// How many reads are made at a time: enough for as many bytes as are waited for.
 const READS: u64 = 8;
-/// How many milliseconds a connection may take for its first head.
-const FIRST_HEAD: u64 = 10_000;
-/// How many milliseconds a parked connection may take for its next head.
-const NEXT_HEAD: u64 = 75_000;
+/// How many milliseconds a connection may take for its first message.
+const FIRST_MESSAGE: u64 = 10_000;
+/// How many milliseconds a parked connection may take for its next message.
+const NEXT_MESSAGE: u64 = 75_000;
 /// How many milliseconds a connection that is to end may take for it.
 const ENDING: u64 = 2_000;
 
 /// Who has a connection.
 #[derive(Clone, Copy, Debug, PartialEq, Eq)]
 pub(crate) enum Stage {
-    /// The hub: no wire had it yet, and its first head isn't whole.
+    /// The hub: no wire had it yet, and its first message isn't whole.
     Fresh,
     /// The hub: it is parked between two messages.
     Parked,
@@ -36,7 +36,7 @@ pub(crate) enum Came {
     /// Something for the wire of this number.
     News(u64),
     /// Something to read of a connection that no wire has.
-    Head,
+    Arrival,
     /// Something to forget.
     Leftover,
     /// Nothing that somebody waits for.
@@ -56,7 +56,7 @@ pub(crate) enum Found {
 #[derive(Drop)]
 pub(crate) struct Slot {
     connection: Arc<Connection>,
-    head: Head,
+    incoming: Incoming,
     /// The number of the wire that has it, or had it last; 0 where none had.
     number: u64,
     /// Tells connections apart that had the same place after each other.
@@ -64,7 +64,7 @@ pub(crate) struct Slot {
     stage: Stage,
     /// Since when it is at this stage, in milliseconds.
     since: u64,
-    /// It stands in the hub's queue of heads to read.
+    /// It stands in the hub's queue of arrivals.
     queued: bool,
     /// It stands in the hub's list of connections that wires have.
     listed: bool,
@@ -75,7 +75,7 @@ impl Slot {
     pub(crate) fn new(alloc: Global, connection: Arc<Connection>, serial: u64, now: u64) -> Slot {
         Slot {
             connection,
-            head: Head::new(alloc),
+            incoming: Incoming::new(alloc),
             number: 0,
             serial,
             stage: Stage::Fresh,
@@ -95,7 +95,7 @@ impl Slot {
         now.saturating_sub(self.since)
     }
 
-    /// Whether this is that connection, and its first head isn't whole.
+    /// Whether this is that connection, and its first message isn't whole.
     pub(crate) fn is_fresh(&self, serial: u64) -> bool {
         self.serial == serial && self.stage == Stage::Fresh
     }
@@ -109,7 +109,7 @@ impl Slot {
             self.connection.set_readable(true);
         }
         if self.connection.is_parked() {
-            return self.note_head(readable);
+            return self.note_arrival(readable);
         }
         match self.stage {
             Stage::Held => Came::News(self.number),
@@ -118,15 +118,15 @@ impl Slot {
         }
     }
 
-    fn note_head(&mut self, readable: bool) -> Came {
+    fn note_arrival(&mut self, readable: bool) -> Came {
         if !readable || self.queued {
             return Came::Nothing;
         }
         self.queued = true;
-        Came::Head
+        Came::Arrival
     }
 
-    /// Takes it out of the hub's queue of heads to read.
+    /// Takes it out of the hub's queue of arrivals.
     pub(crate) fn leave_queue(&mut self) {
         self.queued = false;
     }
@@ -149,7 +149,7 @@ impl Slot {
         if !self.connection.unpark() {
             return None;
         }
-        if self.read_head() == Found::Pending {
+        if self.read_message() == Found::Pending {
             if self.stage == Stage::Held {
                 self.enter(Stage::Parked, now);
             }
@@ -158,11 +158,11 @@ impl Slot {
         }
         self.number = number;
         self.enter(Stage::Held, now);
-        Some((connection, self.head.take(alloc)))
+        Some((connection, self.incoming.take(alloc)))
     }
 
-    // Reads what is there of a head.
-    fn read_head(&mut self) -> Found {
+    // Reads what is there of a message.
+    fn read_message(&mut self) -> Found {
         let mut room = [0u8; PIECE];
         for _ in 0..READS {
             match (&self.connection.stream).read(&mut room) {
@@ -171,7 +171,7 @@ impl Slot {
                     if count < PIECE {
                         self.connection.set_readable(false);
                     }
-                    if self.head.push(&room[..count]).is_err() || self.head.is_whole() {
+                    if self.incoming.push(&room[..count]).is_err() || self.incoming.is_whole() {
                         return Found::Whole;
                     }
                     if count < PIECE {
@@ -220,8 +220,8 @@ impl Slot {
     /// Whether it is to be closed now, since it took too long or has ended.
     pub(crate) fn is_over(&mut self, now: u64) -> bool {
         match self.review(now) {
-            Stage::Fresh => self.age(now) >= FIRST_HEAD,
-            Stage::Parked => self.age(now) >= NEXT_HEAD,
+            Stage::Fresh => self.age(now) >= FIRST_MESSAGE,
+            Stage::Parked => self.age(now) >= NEXT_MESSAGE,
             Stage::Held => false,
             Stage::Ending => self.age(now) >= ENDING || self.forget(),
         }

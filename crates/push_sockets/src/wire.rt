@@ -9,12 +9,16 @@ use std::net::Shutdown;
 use std::sync::Arc;
 use std::sync::atomic::{AtomicU64, Ordering};
 
+/// How many calls of a wire that isn't hurried may wait in vain.
+const WAITS: u64 = 2_000;
+
 /// A connection of a `SocketListener`, from one message on. It tells neither what is left nor what was written.
 ///
 /// A read first gives the bytes that the listener read, and then reads the socket. Where nothing has come it answers `End`
 /// between two messages, and the connection is parked: the listener gives it again, as another wire. In mid-message a call waits
-/// for some milliseconds before it answers `NotYet`, and once the wire is hurried not at all. A wire that is dropped unparked
-/// ends its connection: what was written still arrives.
+/// for some milliseconds before it answers `NotYet`, and once the wire is hurried not at all. A wire that isn't hurried fails where
+/// 2,000 of its calls have waited in vain, which takes ten seconds, so that a slow client holds up nobody for longer. A wire that is
+/// dropped unparked ends its connection: what was written still arrives.
 pub struct SocketWire {
     connection: Arc<Connection>,
     /// How many of the listener's wires were dropped.
@@ -25,6 +29,8 @@ pub struct SocketWire {
     /// The reader holds no byte of a next message.
     rests: bool,
     hurried: bool,
+    /// How many more calls may wait in vain, unless it is hurried.
+    waits: u64,
     /// The last write found no room.
     blocked: bool,
     parked: bool,
@@ -46,6 +52,7 @@ impl SocketWire {
             at: 0,
             rests: false,
             hurried: false,
+            waits: WAITS,
             blocked: false,
             parked: false,
             faults: 0,
@@ -82,6 +89,19 @@ impl SocketWire {
         }
         self.parked = true;
         true
+    }
+
+    // Takes one of the waits that are left, and answers whether there was one.
+    fn may_wait(&mut self) -> bool
+        ensures faults { self.new.faults ≡ self.old.faults }
+        ensures lulls { self.new.lulls ≡ self.old.lulls }
+    {
+        if self.hurried {
+            return true;
+        }
+        let has_waits = self.waits > 0;
+        self.waits = self.waits.saturating_sub(1);
+        has_waits
     }
 
     // Counts an answer that says that nothing can be done now.
@@ -142,7 +162,7 @@ impl Wire for SocketWire {
                 self.rests = false;
                 Got::Bytes(count)
             }
-            Err(error) if error.kind() == ErrorKind::WouldBlock => {
+            Err(error) if error.kind() == ErrorKind::WouldBlock && self.may_wait() => {
                 self.connection.set_readable(false);
                 self.lull();
                 Got::NotYet
@@ -166,7 +186,7 @@ impl Wire for SocketWire {
                 self.blocked = false;
                 Put::Wrote(count)
             }
-            Err(error) if error.kind() == ErrorKind::WouldBlock => {
+            Err(error) if error.kind() == ErrorKind::WouldBlock && self.may_wait() => {
                 self.blocked = true;
                 self.lull();
                 Put::NotYet
@@ -210,6 +230,7 @@ impl Drop for SocketWire {
             at: _,
             rests: _,
             hurried: _,
+            waits: _,
             blocked: _,
             parked: _,
             faults: _,

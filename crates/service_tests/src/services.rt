@@ -2,7 +2,7 @@
 
 use crate::house::{Doors, Told, serves};
 use crate::operator::Operator;
-use crate::sender::{Sender, post};
+use crate::sender::{Sender, head_of, post};
 use crate::visits::{acknowledge, hello, notified, register};
 use autopush_serve::Ended;
 use serve_run::{Halt, ServeEnd};
@@ -105,7 +105,84 @@ fn a_client_that_moves(rt: HostRuntime) -> Result<(), Fail> {
     Ok(())
 }
 
-// One request stops before its body's end until another has been answered.
+// A sender that has sent the head of a request, and two bytes of the five behind it.
+fn half_post<R: Net<Stream = TcpStream>>(
+    rt: &R,
+    alloc: Global,
+    port: u16,
+    target: &str,
+) -> Result<Sender, Fail> {
+    let sender = Sender::connect(rt, port)?;
+    sender.begin(alloc, target, 5)?;
+    sender.write("he")?;
+    Ok(sender)
+}
+
+// The other three bytes come, and the answer, and the client is told of the message.
+fn ends_well<R: Abort>(
+    rt: &R,
+    alloc: Global,
+    sender: &Sender,
+    client: &Client,
+) -> Result<(), Fail> {
+    sender.write("llo")?;
+    assert_eq!(rt; sender.answer(alloc)?.as_str(), "HTTP/1.1 201 Created");
+    notified(rt, client, alloc, "aGVsbG8")?;
+    Ok(())
+}
+
+// A whole request is answered, and the client is told of the message.
+fn passes<R: Net<Stream = TcpStream> + Abort>(
+    rt: &R,
+    alloc: Global,
+    port: u16,
+    target: &str,
+    client: &Client,
+) -> Result<(), Fail> {
+    let answer = post(rt, alloc, port, target, "world")?;
+    assert_eq!(rt; answer.as_str(), "HTTP/1.1 201 Created");
+    notified(rt, client, alloc, "d29ybGQ")?;
+    Ok(())
+}
+
+// Three requests stop before the ends of their bodies until another has been answered.
+fn overtakes<R: Net<Stream = TcpStream> + Clock + Abort>(
+    rt: &R,
+    alloc: Global,
+    doors: Doors,
+) -> Result<Client, Fail> {
+    let (client, _) = hello(rt, alloc, doors.connection, "")?;
+    let target = register(&client, alloc, doors.endpoint)?;
+    let first = half_post(rt, alloc, doors.endpoint, &target)?;
+    let second = half_post(rt, alloc, doors.endpoint, &target)?;
+    let third = half_post(rt, alloc, doors.endpoint, &target)?;
+    passes(rt, alloc, doors.endpoint, &target, &client)?;
+    ends_well(rt, alloc, &second, &client)?;
+    ends_well(rt, alloc, &third, &client)?;
+    ends_well(rt, alloc, &first, &client)?;
+    Ok(client)
+}
+
+// More slow requests than an endpoint node has loops hold up nobody.
+#[test]
+fn requests_that_are_slow(rt: HostRuntime) -> Result<(), Fail> {
+    let alloc = rt.alloc();
+    let doors = Doors::free(&rt)?;
+    let words = doors.words(alloc, 1)?;
+    let (operator, lines) = Operator::new(&rt)?;
+    let (told, visit) = thread::join(
+        &rt,
+        || serves(rt, rt, alloc, &words, lines),
+        || operator.say_after(overtakes(&rt, alloc, doors), "stop\n"),
+    );
+    drop(visit?);
+    let output = output_of(&rt, &told, alloc)?;
+    assert!(rt; output.contains("\ntally begun 4 ok 4 refused 0 "));
+    Ok(())
+}
+
+// A loop that answered one request has begun to read the next one, which stops before its body's end until another has been
+// answered.
 fn crosses<R: Net<Stream = TcpStream> + Clock + Abort>(
     rt: &R,
     alloc: Global,
@@ -114,14 +191,15 @@ fn crosses<R: Net<Stream = TcpStream> + Clock + Abort>(
     let (client, _) = hello(rt, alloc, doors.connection, "")?;
     let target = register(&client, alloc, doors.endpoint)?;
     let slow = Sender::connect(rt, doors.endpoint)?;
-    slow.begin(alloc, &target, 5)?;
-    slow.write("he")?;
-    let answer = post(rt, alloc, doors.endpoint, &target, "world")?;
-    assert_eq!(rt; answer.as_str(), "HTTP/1.1 201 Created");
-    notified(rt, &client, alloc, "d29ybGQ")?;
-    slow.write("llo")?;
+    slow.write(&format!(in alloc;
+        "{}world{}he",
+        head_of(alloc, &target, 5)?,
+        head_of(alloc, &target, 5)?
+    )?)?;
     assert_eq!(rt; slow.answer(alloc)?.as_str(), "HTTP/1.1 201 Created");
-    notified(rt, &client, alloc, "aGVsbG8")?;
+    notified(rt, &client, alloc, "d29ybGQ")?;
+    passes(rt, alloc, doors.endpoint, &target, &client)?;
+    ends_well(rt, alloc, &slow, &client)?;
     Ok(client)
 }
 
@@ -139,7 +217,7 @@ fn a_request_that_waits_for_another(rt: HostRuntime) -> Result<(), Fail> {
     );
     drop(visit?);
     let output = output_of(&rt, &told, alloc)?;
-    assert!(rt; output.contains("\ntally begun 2 ok 2 refused 0 "));
+    assert!(rt; output.contains("\ntally begun 3 ok 3 refused 0 "));
     Ok(())
 }
 

@@ -7,7 +7,7 @@ use std::test::Fail;
 use std::time::Duration;
 
 /// How many seconds a read or a write waits at most.
-const PATIENCE: u64 = 5;
+const PATIENCE: u64 = 20;
 
 /// How many bytes of a response are read at most.
 const RESPONSE: usize = 1_024;

@@ -60,7 +60,7 @@ impl<R: Net + Clock + Copy> Hub<R> {
             free: Vec::new(alloc),
             serial: 0,
             line: VecDeque::new(alloc),
-            heads: VecDeque::new(alloc),
+            arrivals: VecDeque::new(alloc),
             held: VecDeque::new(alloc),
             leftovers: VecDeque::new(alloc),
             news: VecDeque::new(alloc),
