@@ -10,7 +10,7 @@ use std::process::Abort;
 use std::sync::Wait;
 use std::test::Fail;
 
-// Gives these lines to control at the desks, and compares what is written. The status is 0.
+/// Gives these lines to control at the desks, and compares what is written. The status is 0.
 pub fn answers<R: Abort + Wait, D: Desks>(
     rt: &R,
     alloc: Global,

@@ -131,27 +131,40 @@ fn behind_head(bytes: &[u8], lines: &[HeaderSpan], found: &RequestSpans) -> Seen
     behind_lines(bytes, &lines[..found.headers], found.len)
 }
 
-// What follows a head that ends there, by its lines.
+// What follows a head that ends there, by its lines. One that tells of its body twice is refused.
 fn behind_lines(bytes: &[u8], lines: &[HeaderSpan], end: usize) -> Seen
     requires { All (IsHeaderWithin (length bytes.now)) lines.now }
 {
+    let mut told = None;
     for line in lines {
-        let name = line.name.of(bytes);
-        if name.eq_ignore_ascii_case(b"transfer-encoding") {
-            return Seen::Then(Part::ChunkLine, end);
-        }
-        if name.eq_ignore_ascii_case(b"content-length") {
-            return behind_body(line.value.of(bytes), end);
+        let value = line.value.of(bytes);
+        if let Some(behind) = behind_line(line.name.of(bytes), value, end) {
+            if told.is_some() {
+                return Seen::Refused;
+            }
+            told = Some(behind);
         }
     }
-    Seen::Then(Part::Next, end)
+    told.unwrap_or(Seen::Then(Part::Next, end))
 }
 
-// What follows a head that ends there, where its body is so long.
-fn behind_body(count: &[u8], end: usize) -> Seen {
-    match read_number(count, BODY + 1) {
-        Some(count) if count <= BODY => Seen::Then(Part::Next, end.saturating_add(count as usize)),
-        _ => Seen::Refused,
+// What follows a head that ends there, where this line tells of its body.
+fn behind_line(name: &[u8], value: &[u8], end: usize) -> Option<Seen> {
+    if name.eq_ignore_ascii_case(b"content-length") {
+        return Some(match read_number(value, BODY + 1) {
+            Some(count) if count <= BODY => {
+                Seen::Then(Part::Next, end.saturating_add(count as usize))
+            }
+            _ => Seen::Refused,
+        });
+    }
+    if !name.eq_ignore_ascii_case(b"transfer-encoding") {
+        return None;
+    }
+    if value.eq_ignore_ascii_case(b"chunked") {
+        Some(Seen::Then(Part::ChunkLine, end))
+    } else {
+        Some(Seen::Refused)
     }
 }
 
