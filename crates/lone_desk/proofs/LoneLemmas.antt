@@ -1,6 +1,7 @@
 -- What a call of the lone desk did, by its note.
 use Rattle.std.proofs.Common.{◌≡◌, ℕ, zero, suc, ◌<◌, ◌≤◌, ◌==◌, Bool, true, false, cond, List, [], ◌∷◌, ◌++◌, refl, sym, ap, ◌∙◌, subst, arith, append-nil, length-set, get_or-set_same, get_or-set_other}
 use Rattle.std.proofs.lemmas.Bool.{eqb-true}
+use Rattle.std.proofs.lemmas.List.Elements.{filter-append}
 use mathlib.Core.Logic.{dite}
 use native.Mathlib.Decide.{ℕ_discrete}
 use Rattle.push_model.specs.declared.entry.Entry.{Entry}
@@ -44,6 +45,7 @@ module _ (v : Notes) (w next : World) (x : Step) (r : Reply) (h : IsNoted v w) (
     legal = legal_step step v.first w next v.seen 0 x r h.legal h.leads did;
     leads = after_step step v.first w next v.seen 0 x r h.leads did;
     each_proper = proper_last proper v.seen (entry 0 x r) h.each_proper p;
+    alone = filter-append (λ (e : Entry Step Reply). e.by == 0) v.seen (entry 0 x r ∷ []) ∙ ap (λ (es : List (Entry Step Reply)). es ++ entry 0 x r ∷ []) h.alone;
     eight = h.eight;
     mail = h.mail;
   }
@@ -124,7 +126,7 @@ module _ (v : Notes) (w : World) (k : ℕ) (c : MailChange) (h : IsNoted v w) (l
       let m : Notes = with_mail v (suc k) change in
       let same : IsSameDesk (lone_view v) (lone_view m) = same_desk v m refl in
       record {
-        noted = record { numbered = h.numbered; legal = h.legal; leads = h.leads; each_proper = h.each_proper; eight = length-set v.mail k (mail_at v (suc k) ++ change ∷ []) ∙ h.eight; mail = legal_at };
+        noted = record { numbered = h.numbered; legal = h.legal; leads = h.leads; each_proper = h.each_proper; alone = h.alone; eight = length-set v.mail k (mail_at v (suc k) ++ change ∷ []) ∙ h.eight; mail = legal_at };
         calls = calls_still (lone_view v) (lone_view m) same (λ j. refl);
         mails = mails_one (lone_view v) (lone_view m) 0 (suc k) c (record { same = same; signs = refl; last = change_last; others = λ j n. others j n (j == 0) refl });
         last = change_last;

@@ -1,5 +1,5 @@
 -- What the one seat knows, and what its notes keep.
-use Rattle.std.specs.Prelude.{◌≡◌, ℕ, zero, suc, List, [], ◌∷◌, ◌++◌, map, length, slice_index_or, slice_set}
+use Rattle.std.specs.Prelude.{◌≡◌, ◌==◌, ℕ, zero, suc, List, [], ◌∷◌, ◌++◌, map, length, slice_index_or, slice_set}
 use Rattle.atomic_table.specs.Table.{State, Me}
 use Rattle.atomic_table.specs.Table as table
 use Rattle.push_model.specs.declared.entry.Entry.{Entry}
@@ -7,6 +7,7 @@ use Rattle.push_model.specs.declared.mail.MailChange.TheVariants.{Post, Taken}
 use Rattle.push_model.specs.declared.mail.MailEntry.{MailEntry}
 use Rattle.push_model.specs.declared.reply.Reply.{Reply}
 use Rattle.push_model.specs.declared.step.Step.{Step}
+use Rattle.push_model.specs.DeskViews.{entry_by, own_among}
 use Rattle.push_model.specs.Worlds.{World}
 use Rattle.push_model.specs.Steps.{proper, step}
 use Rattle.push_model.specs.Histories.{AllProper, IsLegal, world_after}
@@ -60,5 +61,6 @@ pub record IsNoted (n : Notes) (w : World) : Type 0 where
   pub legal : IsLegal step n.first n.seen
   pub leads : world_after step n.first n.seen ≡ w
   pub each_proper : AllProper proper n.seen
+  pub alone : own_among entry_by (λ by. by == 0) n.seen ≡ n.seen
   pub eight : length n.mail ≡ 8
   pub mail : (node : ℕ) → IsLegalMail (mail_at n node)

@@ -1,7 +1,7 @@
 //! A desk of one shard.
 ghost use Rattle.std.specs.Prelude.{◌≡◌, IfOk};
 ghost use Rattle.push_model.specs.Reached.{IsReached};
-ghost use Rattle.push_model.specs.DeskViews.{IsHonest};
+ghost use Rattle.push_model.specs.DeskViews.{IsHonest, own_entries};
 ghost use Rattle.lone_desk.specs.Notes.{fresh};
 ghost use Rattle.lone_desk.specs.LoneViews.{lone_view};
 
@@ -48,6 +48,13 @@ impl LoneDesk {
             Ok((words, seat)) => Ok(LoneDesk { shard, words, seat }),
             Err(_) => Err(NoMemory),
         }
+    }
+
+    /// A law: each entry that was seen is an own one.
+    pub fn all_entries_are_own(&self)
+        ensures { own_entries (lone_view self.now) 0 ≡ (lone_view self.now).seen 0 }
+    {
+        let _seat = &self.seat;
     }
 }
 
