@@ -58,6 +58,12 @@ module _ {W S R : Type 0} (run : W → S → W × R) (proper : ℕ → S → Boo
       } in
       subst (λ (x : SeatState W S R). Holding run proper x record { object = next; entries = home.entries + 1 }) (sym is) after
 
+  -- where memory was wanted, neither moved
+  pub unmoved : (me m : SeatState W S R) (home end : Home W) (object : W) → m ≡ me → end ≡ record { object = object; entries = home.entries } → object ≡ home.object → Holding run proper me home → Holding run proper m end
+  unmoved me m home end object same is kept h =
+      let back : end ≡ home = is ∙ ap (λ (o : W). record { object = o; entries = home.entries }) kept in
+      subst (λ (x : SeatState W S R). Holding run proper x end) (sym same) (subst (Holding run proper me) (sym back) h)
+
   pub first_of : (v : Option W) → is_there v ≡ true → (w : W) × (v ≡ Some w)
   first_of (Some w) e = (w, refl)
   first_of None e = absurd (none_true e)

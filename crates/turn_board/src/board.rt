@@ -63,8 +63,15 @@ impl<T: Object> Board<T> {
     {
         let ticket = draw_ticket(&self.table, &mut pass.seat);
         let home = begin_turn(rt, &self.table, &mut pass.seat, ticket);
-        let home = with_room(rt, home);
-        let (home, answer) = act(&self.table, &mut pass.seat, pass.number, alloc, home, step);
+        let mut home = with_room(rt, home);
+        let answer = act(
+            &self.table,
+            &mut pass.seat,
+            pass.number,
+            alloc,
+            &mut home,
+            step,
+        );
         end_turn(&self.table, &mut pass.seat, home);
         answer
     }

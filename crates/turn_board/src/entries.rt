@@ -77,34 +77,25 @@ pub fn act<T: Object>(
     seat: &mut BoardSeat<T>,
     by: u64,
     alloc: Global,
-    home: Home<T>,
+    home: &mut Home<T>,
     step: T::Step,
-) -> (Home<T>, Result<T::Reply, NoMemory>)
+) -> Result<T::Reply, NoMemory>
     requires table { IsSeatOf table.now.shared.table_id seat.old }
-    requires holding { Holding T.run T.proper seat.old.me home }
+    requires holding { Holding T.run T.proper seat.old.me home.old }
     requires by { (T.proper by step ≡ true) × (has seat.old.me.0.numbers by ≡ true) }
     requires spare { length seat.old.me.0.spare ≡ 0 }
-    requires room { home.entries + 1 < word_size }
+    requires room { home.old.entries + 1 < word_size }
     ensures same { IsSameSeat seat.old seat.new }
-    ensures holding { Holding T.run T.proper seat.new.me result.0 }
-    ensures ok { IfOk result.1 (λ r. seat.new.me ≡ (with_entries seat.old.me.0 (entry by step r ∷ []), seat.old.me.1)) }
-    ensures reply { IfOk result.1 (λ r. T.run home.object step ≡ (result.0.object, r)) }
-    ensures err { OnErr result.1 ((seat.new.me ≡ seat.old.me) × (T.takes_memory step ≡ true)) }
+    ensures holding { Holding T.run T.proper seat.new.me home.new }
+    ensures ok { IfOk result (λ r. seat.new.me ≡ (with_entries seat.old.me.0 (entry by step r ∷ []), seat.old.me.1)) }
+    ensures reply { IfOk result (λ r. T.run home.old.object step ≡ (home.new.object, r)) }
+    ensures err { OnErr result ((seat.new.me ≡ seat.old.me) × (T.takes_memory step ≡ true)) }
 {
-    let Home {
-        mut object,
-        entries,
-    } = home;
     let said = Snapshot::of(&step);
-    match object.step(alloc, step) {
-        Ok(reply) => {
-            add_entry(table, seat, by, &said, &reply);
-            let home = Home {
-                object,
-                entries: entries + 1,
-            };
-            (home, Ok(reply))
-        }
-        Err(NoMemory) => (Home { object, entries }, Err(NoMemory)),
+    let answer = home.object.step(alloc, step);
+    if let Ok(reply) = &answer {
+        add_entry(table, seat, by, &said, reply);
+        home.entries += 1;
     }
+    answer
 }
