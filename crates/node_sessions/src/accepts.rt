@@ -45,7 +45,10 @@ impl<W: Wire + Drop> Sessions<W> {
     {
         self.wires = self.wires.saturating_add(1);
         match seat_for(alloc, self.wires, wire) {
-            Some(seat) => self.seats.push(seat).is_ok(),
+            Some(seat) => {
+                self.wanted.add(self.wires);
+                self.seats.push(seat).is_ok()
+            }
             None => false,
         }
     }

@@ -60,7 +60,11 @@ pub fn close_all<D: Desks, K: NodeLink<D>, W: Wire + Drop>(
 )
     ensures { SeatsClosed sessions (D.view desks.old) (D.view desks.new) (K.faults link.old) (K.faults link.new) }
 {
-    let mut seats = sessions.seats;
+    let Sessions {
+        mut seats,
+        wanted: _,
+        wires: _,
+    } = sessions;
     for count in 0..seats.len() {
         match seats.pop() {
             Some(seat) => close(alloc, desks, link, seat),

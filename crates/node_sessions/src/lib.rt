@@ -9,5 +9,6 @@ mod mail;
 mod pumps;
 mod rounds;
 mod seats;
+mod wanted;
 
 pub use loops::connection_loop;

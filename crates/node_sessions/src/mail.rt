@@ -5,6 +5,7 @@ ghost use Rattle.node_sessions.specs.Seats.{has_bit, is_named, told};
 ghost use Rattle.node_sessions.specs.Mail.{MailRead, ShardRead};
 
 use crate::seats::{Seat, Sessions};
+use crate::wanted::{Wanted, want};
 use push_model::{Desks, Mail, NodeId, SessionId, Uaid};
 
 fn has_bit(bits: u64, bit: u32) -> bool
@@ -35,23 +36,23 @@ fn is_named(s: Option<SessionId>, count: u8, shard: u8, bits: u64) -> bool
 
 impl<W> Seat<W> {
     // Makes the session due where its user is named.
-    fn hear(&mut self, count: u8, shard: u8, bits: u64)
+    fn hear(&mut self, wanted: &mut Wanted, count: u8, shard: u8, bits: u64)
         requires { 0 < count }
         ensures { self.new ≡ told count shard bits self.old }
     {
         if is_named(self.live.s, count, shard, bits) {
             self.live.due = true;
-            self.is_wanted = true;
+            want(self, wanted);
         }
     }
 }
 
-fn hear_all<W>(seats: &mut [Seat<W>], count: u8, shard: u8, bits: u64)
+fn hear_all<W>(seats: &mut [Seat<W>], wanted: &mut Wanted, count: u8, shard: u8, bits: u64)
     requires { 0 < count }
     ensures { seats.new ≡ map (told count shard bits) seats.old }
 {
     for seat in seats.iter_mut() {
-        seat.hear(count, shard, bits);
+        seat.hear(wanted, count, shard, bits);
     }
 }
 
@@ -61,7 +62,8 @@ impl<W> Sessions<W> {
         requires { 0 < count }
         ensures { self.new ≡ map (told count shard bits) self.old }
     {
-        hear_all(self.seats.as_mut_slice(), count, shard, bits);
+        let seats = self.seats.as_mut_slice();
+        hear_all(seats, &mut self.wanted, count, shard, bits);
     }
 }
 

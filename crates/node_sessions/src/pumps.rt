@@ -84,17 +84,80 @@ fn pump_some<D: Desks, K: NodeLink<D>, C: Clock, G: Draw, W: Wire + Drop>(
     Pumped::Moved
 }
 
-impl<W> Sessions<W> {
-    // Whether the session at that place is to be pumped now.
-    fn is_wanted(&self, i: usize) -> bool
-        requires { i < length self.now }
-    {
-        self.seats[i].is_wanted
+// The same, and where the last pump moved the session, it is noted to be pumped again.
+fn pump_noted<D: Desks, K: NodeLink<D>, C: Clock, G: Draw, W: Wire + Drop>(
+    alloc: Global,
+    desks: &mut D,
+    link: &mut K,
+    clock: &C,
+    draw: &mut G,
+    place: &Place,
+    sessions: &mut Sessions<W>,
+    i: usize,
+) -> Pumped
+    requires { i < length sessions.old }
+    ensures { (n : ℕ) × PumpsMade place.now (C.moment clock.now) n (served D.view K.faults G.given desks.old link.old draw.old sessions.old) (served D.view K.faults G.given desks.new link.new draw.new sessions.new) }
+{
+    let pumped = pump_some(alloc, desks, link, clock, draw, place, sessions, i);
+    if matches!(pumped, Pumped::Moved) {
+        sessions.want_again(i);
     }
+    pumped
 }
 
-/// Pumps the sessions that are wanted, or all, in order, each while it moves, four times at most. It says whether none moved in its
-/// last pump.
+// Pumps all sessions in order, each while it moves, four times at most. It says whether none moved in its last pump.
+fn pump_all<D: Desks, K: NodeLink<D>, C: Clock, G: Draw, W: Wire + Drop>(
+    alloc: Global,
+    desks: &mut D,
+    link: &mut K,
+    clock: &C,
+    draw: &mut G,
+    place: &Place,
+    sessions: &mut Sessions<W>,
+) -> bool
+    ensures { (n : ℕ) × PumpsMade place.now (C.moment clock.now) n (served D.view K.faults G.given desks.old link.old draw.old sessions.old) (served D.view K.faults G.given desks.new link.new draw.new sessions.new) }
+{
+    let mut is_calm = true;
+    let mut i = 0;
+    sessions.wanted.clear();
+    for count in 0..sessions.len() {
+        if i >= sessions.len() {
+            return is_calm;
+        }
+        match pump_noted(alloc, desks, link, clock, draw, place, sessions, i) {
+            Pumped::Moved => {
+                is_calm = false;
+                i += 1;
+            }
+            Pumped::Idle => i += 1,
+            Pumped::Done(_) => {}
+        }
+    }
+    is_calm
+}
+
+// Pumps the first session that is noted to be pumped, while it moves, four times at most. It says whether it didn't move in its last
+// pump; if it did it is noted again, behind the others.
+fn pump_next<D: Desks, K: NodeLink<D>, C: Clock, G: Draw, W: Wire + Drop>(
+    alloc: Global,
+    desks: &mut D,
+    link: &mut K,
+    clock: &C,
+    draw: &mut G,
+    place: &Place,
+    sessions: &mut Sessions<W>,
+) -> bool
+    ensures { (n : ℕ) × PumpsMade place.now (C.moment clock.now) n (served D.view K.faults G.given desks.old link.old draw.old sessions.old) (served D.view K.faults G.given desks.new link.new draw.new sessions.new) }
+{
+    let Some(i) = sessions.next_wanted() else {
+        return true;
+    };
+    let pumped = pump_noted(alloc, desks, link, clock, draw, place, sessions, i);
+    !matches!(pumped, Pumped::Moved)
+}
+
+/// Pumps the sessions that are wanted, in the order in which they came to be so, or all in their order; each while it moves, four
+/// times at most. It says whether none moved in its last pump; those that did are wanted again.
 pub fn pump_wanted<D: Desks, K: NodeLink<D>, C: Clock, G: Draw, W: Wire + Drop>(
     alloc: Global,
     desks: &mut D,
@@ -107,24 +170,13 @@ pub fn pump_wanted<D: Desks, K: NodeLink<D>, C: Clock, G: Draw, W: Wire + Drop>(
 ) -> bool
     ensures { (n : ℕ) × PumpsMade place.now (C.moment clock.now) n (served D.view K.faults G.given desks.old link.old draw.old sessions.old) (served D.view K.faults G.given desks.new link.new draw.new sessions.new) }
 {
+    if all || sessions.wanted.lacks_some() {
+        return pump_all(alloc, desks, link, clock, draw, place, sessions);
+    }
     let mut is_calm = true;
-    let mut i = 0;
-    for count in 0..sessions.len() {
-        if i >= sessions.len() {
-            return is_calm;
-        }
-        if !all && !sessions.is_wanted(i) {
-            i += 1;
-            continue;
-        }
-        match pump_some(alloc, desks, link, clock, draw, place, sessions, i) {
-            Pumped::Moved => {
-                is_calm = false;
-                i += 1;
-            }
-            Pumped::Idle => i += 1,
-            Pumped::Done(_) => {}
-        }
+    for count in 0..sessions.wanted.len() {
+        let is_still = pump_next(alloc, desks, link, clock, draw, place, sessions);
+        is_calm = is_calm && is_still;
     }
     is_calm
 }

@@ -6,7 +6,7 @@ ghost use Rattle.node_sessions.specs.Loops.{RoundMade};
 use crate::accepts::take_one;
 use crate::mail::read_all;
 use crate::pumps::pump_wanted;
-use crate::seats::{Seat, Sessions};
+use crate::seats::Sessions;
 use node_routes::NodeLink;
 use push_model::Desks;
 use push_outside::{Clock, Draw};
@@ -16,30 +16,6 @@ use std::alloc::Global;
 
 /// How many pieces of news one round hears at most.
 const NEWS: u32 = 1_024;
-
-impl<W> Seat<W> {
-    // The next round is to pump it.
-    fn want(&mut self)
-        ensures { self.new ≡ self.old }
-    {
-        self.is_wanted = true;
-    }
-}
-
-impl<W> Sessions<W> {
-    // The session of the wire of that number is to be pumped, if it is here.
-    fn want(&mut self, number: u64)
-        ensures { self.new ≡ self.old }
-    {
-        if let Ok(i) = self
-            .seats
-            .as_slice()
-            .binary_search_by_key(&number, |seat| seat.number)
-        {
-            self.seats[i].want();
-        }
-    }
-}
 
 // Hears for which sessions something came in, and says whether that is all the news.
 fn hear_news<L: Listener>(listener: &mut L, sessions: &mut Sessions<L::W>) -> bool

@@ -1,6 +1,7 @@
 //! The sessions of a loop.
 ghost use Rattle.std.specs.Prelude.{◌≡◌, [], length};
 
+use crate::wanted::Wanted;
 use session_front::Live;
 use std::alloc::Global;
 use std::marker::Model;
@@ -18,7 +19,7 @@ pub struct Seat<W> {
     pub(crate) live: Live,
     /// The number of its wire, from 1 in the order in which they were given.
     pub(crate) number: u64,
-    /// Whether the next round is to pump it.
+    /// Whether it was noted that the next round is to pump it.
     pub(crate) is_wanted: bool,
     /// Its chat.
     pub(crate) chat: Box<WsChat<W>>,
@@ -36,6 +37,8 @@ impl<W> Model for Seat<W> {
 #[derive(Drop)]
 pub struct Sessions<W> {
     pub(crate) seats: Vec<Seat<W>>,
+    /// Which of them the next round is to pump.
+    pub(crate) wanted: Wanted,
     /// How many wires were given so far, up to 2^64 - 1.
     pub(crate) wires: u64,
 }
@@ -56,6 +59,7 @@ impl<W> Sessions<W> {
     {
         Sessions {
             seats: Vec::new(alloc),
+            wanted: Wanted::new(alloc),
             wires: 0,
         }
     }
