@@ -1,9 +1,9 @@
 #!/usr/bin/env python3
 """Makes and drops users one after the other, up to 100,000 in one replay: the peak of memory stays what one user needs.
 
-Each user has a session, a channel with a token of its own, and a message that the session holds, brought by a flight with a
-name of its own; every other one closes the session, and its saver saves the message. Then the user is dropped. So nothing
-is kept of a user, a token or a flight that is no more. It runs the program that the gate left (`rt run` builds it too), and
+Each user has a session, two channels with tokens of their own, and a message that the session holds, brought by a flight with a
+name of its own; every other one closes the session, and its saver saves the message. One channel is unregistered, and then
+the user is dropped. So nothing is kept of a user, a token or a flight that is no more. It runs the program that the gate left (`rt run` builds it too), and
 ends with 1 where the last report counts anything, or 100,000 users need over 64 KiB more than 1,000.
 """
 import pathlib
@@ -18,12 +18,16 @@ PAYLOAD = "a7" * 256
 HELD = """create {u} 1 100
 attach {u} 1 100
 register {u} 1 100 5 {u}
+register {u} 1 100 6 {t}
+unregister {u} 1 100 6
 begin 1 {n} {u} 2592000 . normal {p}
 direct 1 {n}
 heard f 1 {n}
 """
 # What every other user does, before it is dropped.
 ENDS = ["check {u} 1 100\ntopics {u} 1 100\ndrop {u}\n", "close {u} 1 100\nsave {u} 1 100\ndrop {u}\n"]
+# The first token of the second channels.
+SECOND = 1 << 40
 NOTHING = "report users 0 stored 0 held 0 flights 0 unsent 0 orphans 0 waiting 0"
 
 
@@ -42,7 +46,8 @@ def run(users):
     """The seconds that a replay takes in which so many users are made and dropped, and the peak of its memory in KiB."""
     with tempfile.TemporaryFile() as schedule, tempfile.TemporaryFile() as replies:
         for number in range(1, users + 1):
-            schedule.write((HELD + ENDS[number % 2]).format(n=number, u=f"{number:x}", p=PAYLOAD).encode())
+            names = {"n": number, "u": f"{number:x}", "t": f"{SECOND + number:x}", "p": PAYLOAD}
+            schedule.write((HELD + ENDS[number % 2]).format(**names).encode())
         schedule.write(b"report\n")
         schedule.seek(0)
         begun = time.perf_counter()

@@ -36,6 +36,9 @@ SCENES = [
     ("2,400 messages/s, half to 20 sessions that never read", 1, 1, {"sessions": 40, "senders": 16, "rate": 2400, "deaf": 20, "seconds": 30}),
     ("idle, 240 sessions", 1, 1, {"sessions": 240, "idle": 20}),
     ("idle, 1,000 sessions on 4 nodes", 4, 2, {"sessions": 1000, "idle": 20}),
+    ("flat out, 240 sessions on 2 nodes, 2 senders", 2, 1, {"sessions": 240, "senders": 2}),
+    ("flat out, 240 sessions on 2 nodes, 16 senders", 2, 1, {"sessions": 240, "senders": 16}),
+    ("1,000 messages/s, 240 sessions on 2 nodes", 2, 1, {"sessions": 240, "senders": 16, "rate": 1000}),
 ]
 # What is told of each, where the load said it.
 TOLD = [
