@@ -12,8 +12,8 @@ use crate::rule::{BoardSeat, BoardTable, PARKED, SERVING, TICKET};
 use crate::view::Home;
 use std::sync::Wait;
 
-/// How often a caller looks before it parks.
-const LOOKS: u32 = 200;
+/// How often a caller looks before it parks. So many looks take about as long as to sleep and be woken.
+const LOOKS: u32 = 2_000;
 
 /// Draws a ticket.
 pub fn draw_ticket<T: Object>(table: &BoardTable<T>, seat: &mut BoardSeat<T>) -> u64
