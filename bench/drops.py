@@ -1,10 +1,10 @@
 #!/usr/bin/env python3
-"""Makes and drops users one after the other, up to 100,000 in one replay: the peak of memory stays what one user needs.
+"""Makes and drops users one after the other, up to 90,000 in one replay: the peak of memory stays what one user needs.
 
 Each user has a session, two channels with tokens of their own, and a message that the session holds, brought by a flight with a
 name of its own; every other one closes the session, and its saver saves the message. One channel is unregistered, and then
 the user is dropped. So nothing is kept of a user, a token or a flight that is no more. It runs the program that the gate left (`rt run` builds it too), and
-ends with 1 where the last report counts anything, or 100,000 users need over 64 KiB more than 1,000.
+ends with 1 where the last report counts anything, or 90,000 users need over 64 KiB more than 1,000.
 """
 import pathlib
 import subprocess
@@ -70,7 +70,7 @@ def run(users):
 
 def main():
     peaks = []
-    for users in (1_000, 10_000, 100_000):
+    for users in (1_000, 10_000, 90_000):
         seconds, peak = run(users)
         peaks.append(peak)
         print(f"{users:7} users made and dropped {seconds:8.2f} s   peak {peak:6} KiB")
