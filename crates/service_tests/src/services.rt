@@ -11,8 +11,11 @@ use std::net::{Ipv4Addr, Net, TcpListener, TcpStream};
 use std::process::Abort;
 use std::test::Fail;
 use std::thread;
-use std::time::Clock;
+use std::time::{Clock, Duration};
 use ws_socket_tests::Client;
+
+/// How many milliseconds a client that moves is away. A user's sessions are told apart by the millisecond in which they began.
+const AWAY: u64 = 10;
 
 // What is written by a service that ended with 0.
 fn output_of<R: Abort>(rt: &R, told: &Told, alloc: Global) -> Result<String, Fail> {
@@ -75,6 +78,7 @@ fn moves<R: Net<Stream = TcpStream> + Clock + Abort>(
     assert!(rt; first.is_at_end()?);
     let answer = post(rt, alloc, doors.endpoint, &target, "hello")?;
     assert_eq!(rt; answer.as_str(), "HTTP/1.1 201 Created");
+    thread::sleep(rt, Duration::from_millis(AWAY));
     let (second, name) = hello(rt, alloc, doors.connection.saturating_add(1), &uaid)?;
     assert_eq!(rt; name.as_str(), uaid.as_str());
     let version = notified(rt, &second, alloc, "aGVsbG8")?;
