@@ -6,10 +6,12 @@ mod each;
 mod endpoint;
 mod gate;
 mod list_gate;
+mod pins;
 mod share;
 
 pub use each::Each;
 pub use endpoint::endpoint_loop;
 pub use gate::{Gate, StopGate};
 pub use list_gate::{GateNote, ListGate};
+pub use pins::counts_rise_together;
 pub use share::Share;

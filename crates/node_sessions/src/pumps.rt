@@ -60,7 +60,8 @@ fn pump_at<D: Desks, K: NodeLink<D>, C: Clock, G: Draw, W: Wire + Drop>(
     pumped
 }
 
-// Pumps the session at that place while it moves, four times at most, and says what the last pump did.
+// Pumps the session at that place while it moves, four times at most, and says what the last pump did. Where that moved the session,
+// it is noted to be pumped again.
 fn pump_some<D: Desks, K: NodeLink<D>, C: Clock, G: Draw, W: Wire + Drop>(
     alloc: Global,
     desks: &mut D,
@@ -81,28 +82,8 @@ fn pump_some<D: Desks, K: NodeLink<D>, C: Clock, G: Draw, W: Wire + Drop>(
             Pumped::Done(end) => return Pumped::Done(end),
         }
     }
+    sessions.want_again(i);
     Pumped::Moved
-}
-
-// The same, and where the last pump moved the session, it is noted to be pumped again.
-fn pump_noted<D: Desks, K: NodeLink<D>, C: Clock, G: Draw, W: Wire + Drop>(
-    alloc: Global,
-    desks: &mut D,
-    link: &mut K,
-    clock: &C,
-    draw: &mut G,
-    place: &Place,
-    sessions: &mut Sessions<W>,
-    i: usize,
-) -> Pumped
-    requires { i < length sessions.old }
-    ensures { (n : ℕ) × PumpsMade place.now (C.moment clock.now) n (served D.view K.faults G.given desks.old link.old draw.old sessions.old) (served D.view K.faults G.given desks.new link.new draw.new sessions.new) }
-{
-    let pumped = pump_some(alloc, desks, link, clock, draw, place, sessions, i);
-    if matches!(pumped, Pumped::Moved) {
-        sessions.want_again(i);
-    }
-    pumped
 }
 
 // Pumps all sessions in order, each while it moves, four times at most. It says whether none moved in its last pump.
@@ -124,7 +105,7 @@ fn pump_all<D: Desks, K: NodeLink<D>, C: Clock, G: Draw, W: Wire + Drop>(
         if i >= sessions.len() {
             return is_calm;
         }
-        match pump_noted(alloc, desks, link, clock, draw, place, sessions, i) {
+        match pump_some(alloc, desks, link, clock, draw, place, sessions, i) {
             Pumped::Moved => {
                 is_calm = false;
                 i += 1;
@@ -152,7 +133,7 @@ fn pump_next<D: Desks, K: NodeLink<D>, C: Clock, G: Draw, W: Wire + Drop>(
     let Some(i) = sessions.next_wanted() else {
         return true;
     };
-    let pumped = pump_noted(alloc, desks, link, clock, draw, place, sessions, i);
+    let pumped = pump_some(alloc, desks, link, clock, draw, place, sessions, i);
     !matches!(pumped, Pumped::Moved)
 }
 

@@ -12,7 +12,7 @@ use crate::rule::{BoardSeat, BoardTable, PARKED, SERVING, TICKET};
 use crate::view::Home;
 use std::sync::Wait;
 
-/// How often a caller looks before it parks. So many looks take about as long as to sleep and be woken.
+/// How often a caller looks before it parks. So many looks take somewhat less time than to sleep and be woken.
 const LOOKS: u32 = 2_000;
 
 /// Draws a ticket.

@@ -15,6 +15,3 @@ returns-in-Idle g c = pumped_more _ _ _ _ _ _ _ c.loop-count.invariant c.in-Idle
 
 pub returns-in-Done : goal.returns-in-Done
 returns-in-Done g c = pumped_more _ _ _ _ _ _ _ c.loop-count.invariant c.in-Done.ensures
-
-pub returns : goal.returns
-returns g c = (c.loop-count.invariant.count, c.loop-count.invariant.pumps)

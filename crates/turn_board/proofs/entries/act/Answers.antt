@@ -4,7 +4,6 @@ use Rattle.turn_board.proofs.TurnLemmas.{acted, unmoved}
 use Rattle.turn_board.proofs.entries.act.Goals.{in-Ok, in_default}
 use Rattle.turn_board.proofs.entries.act.Goals as goal
 
--- src/entries.rt:75:1
 pub returns-clause-holding : goal.returns-clause-holding
 returns-clause-holding g c = elim c.match-answer.branch [
   | in-Ok w ↦
