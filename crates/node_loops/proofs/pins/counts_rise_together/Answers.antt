@@ -1,4 +1,4 @@
-use Rattle.std.proofs.Common.{ℕ, zero, suc, ◌≡◌, refl, absurd, arith}
+use Rattle.std.proofs.Common.{ℕ, zero, suc, ◌≡◌, refl, arith}
 use Rattle.node_loops.specs.Together.{raised, RoseTogether}
 use Rattle.node_loops.proofs.pins.counts_rise_together.Goals as goal
 
@@ -13,7 +13,7 @@ unfolding raised
 returns-clause-twice c = (2, refl, refl)
 
 pub returns-clause-first : goal.returns-clause-first
-returns-clause-first c = λ a b h. still h.0 a b h.1.1 h.1.0
+returns-clause-first c = λ a b h. still h.0 a b h.2 h.1
 
 pub returns-clause-second : goal.returns-clause-second
-returns-clause-second c = λ a b h. still h.0 a b h.1.0 h.1.1
+returns-clause-second c = λ a b h. still h.0 a b h.1 h.2
